@@ -1,0 +1,2 @@
+pub mod LeastMultiples
+pub mod StepLists

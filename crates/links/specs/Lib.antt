@@ -1,0 +1,5 @@
+pub mod Facts
+pub mod Meaning
+pub mod Padding
+pub mod Shown
+pub mod Steps

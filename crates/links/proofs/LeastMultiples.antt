@@ -1,18 +1,15 @@
 -- `padded` gives the words of the least number of whole packets, and no other number does. Assumes nothing.
 use mathlib.Core.Path.{_≡_, refl, ap, sym, _∙_}
 use mathlib.Core.Logic.{⊎-elim}
-use Prim.Native.Nat.{ℕ, _+_, _*_, _/_, _%_, _≤_, _<_, min}
+use Prim.Native.Nat.{ℕ, _+_, _*_, _/_, _%_, _≤_, _<_}
 use native.Mathlib.Nat.{div-add-mod', add-mul, mul-le-mul-right}
 use native.Mathlib.Omega.{arith}
 use lib.Dec.{eqb}
 use Rattle.std.proofs.shelf.Tests.{cases-lt, cond-both, eqb-true, eqb-false}
 use Rattle.std.specs.declared.option.Option.{Option}
 use Rattle.links.specs.Meaning.{packet-delay}
-use Rattle.links.specs.Padding.{LeastMultiple, Padded, padded}
+use Rattle.links.specs.Padding.{LeastMultiple, Padded, packets, padded}
 use Rattle.links.specs.Shown.{enough}
-
-abbrev packets : ℕ → ℕ → ℕ
-packets size words = words / size + min 1 (words % size)
 
 -- Fewer packets than that do not hold the words.
 too-few : (size words k : ℕ) → 0 < size → k < packets size words → k * size < words

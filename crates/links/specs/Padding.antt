@@ -14,6 +14,10 @@ pub record LeastMultiple (size words n : ℕ) : Type 0 where
 abbrev pub Padded : ℕ → ℕ → ℕ → Type 0
 Padded size words n = (size ≡ 0 → n ≡ words) × (0 < size → LeastMultiple size words n)
 
--- The same as a number: the full packets, and one more where a part is left over.
+-- How many packets hold the words: the full ones, and one more where a part is left over.
+abbrev pub packets : ℕ → ℕ → ℕ
+packets size words = words / size + min 1 (words % size)
+
+-- The words sent, as a number.
 abbrev pub padded : ℕ → ℕ → ℕ
-padded size words = cond (eqb size 0) words ((words / size + min 1 (words % size)) * size)
+padded size words = cond (eqb size 0) words (packets size words * size)

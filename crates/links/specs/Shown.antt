@@ -11,7 +11,7 @@ use Rattle.std.specs.declared.option.Option.{Option}
 use Rattle.std.specs.declared.option.Option.the-variants.{Some, None}
 use Rattle.links.specs.Facts.{Facts}
 use Rattle.links.specs.Meaning.{within-size, within-time, rate-delay, header-delay, packet-delay, relay-delay}
-use Rattle.links.specs.Padding.{padded}
+use Rattle.links.specs.Padding.{packets, padded}
 
 pub within-time-bounded : (delay : Option ℕ) (ticks : ℕ) → within-time delay ≡ Some ticks → ticks ≤ 1000000
 within-time-bounded None ticks is = let no : _≡_ {A = ℕ} 0 1 = cc in omega arith
@@ -40,7 +40,7 @@ header-facts below header facts = record {
 }
 
 -- Whole packets hold all the words.
-pub enough : (size words : ℕ) → 0 < size → words ≤ (words / size + min 1 (words % size)) * size
+pub enough : (size words : ℕ) → 0 < size → words ≤ packets size words * size
 enough size words some =
     let split = div-add-mod' words size in
     let rest = mod-lt words some in
@@ -52,7 +52,7 @@ enough size words some =
 
 pub padded-enough : (size words : ℕ) → words ≤ padded size words
 padded-enough size words =
-    cond-both (eqb size 0) words ((words / size + min 1 (words % size)) * size) (λ n. words ≤ n)
+    cond-both (eqb size 0) words (packets size words * size) (λ n. words ≤ n)
     (λ _. omega arith)
     (λ e. enough size words (omega (arith, eqb-false size 0 e)))
 

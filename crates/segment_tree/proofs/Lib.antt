@@ -1,0 +1,4 @@
+pub mod Blanks
+pub mod Climb
+pub mod Levels
+pub mod Same

@@ -1,0 +1,4 @@
+pub mod BestArrivals
+pub mod Kind
+pub mod RunSummaries
+pub mod Tree

@@ -1,8 +1,11 @@
 -- The kind of best arrivals. Assumes nothing.
-use mathlib.Core.Bool.{Bool, true, false, cond, _&&_, _||_}
-use Prim.Native.Nat.{ℕ, _≤_}
+use mathlib.Core.Bool.{Bool, cond, _&&_, _||_}
+use mathlib.Core.Logic.{_⊎_}
+use mathlib.Core.Path.{_≡_}
+use Prim.Native.Nat.{_≤_}
 use native.Mathlib.Omega.{arith}
-use lib.Dec.{T, eqb, leb, ltb, leb→le}
+use lib.Dec.{eqb, leb, ltb}
+use Rattle.std.proofs.shelf.Tests.{cond-both, leb-true}
 use Rattle.segment_tree.specs.Kind.{Kind}
 use Rattle.segment_tree.specs.declared.arrivals.ArrivalRow.{ArrivalRow}
 use Rattle.segment_tree.specs.declared.arrivals.BestArrival.{BestArrival}
@@ -17,19 +20,21 @@ wins y x = ltb (x .arrival) (y .arrival) || (eqb (x .arrival) (y .arrival) && lt
 abbrev pub best-joined : BestArrival → BestArrival → BestArrival
 best-joined x y = cond (wins y x) y x
 
+-- The winner is one of the two, its arrival is not below either, and of those with that arrival its task is the lowest.
+pub record Winner (x y winner : BestArrival) : Type 0 where
+  pub one : (winner ≡ x) ⊎ (winner ≡ y)
+  pub greatest : (x .arrival ≤ winner .arrival) × (y .arrival ≤ winner .arrival)
+  pub lowest : (x .arrival ≡ winner .arrival → winner .task ≤ x .task) × (y .arrival ≡ winner .arrival → winner .task ≤ y .task)
+
 abbrev pub best-written : BestArrival → ArrivalRow
 best-written x = record { arrival = x .arrival; task = x .task }
-
-pub read-in-range : (b : Bool) (n : ℕ) → (T b → n ≤ 4_294_967_295) → cond b n 4_294_967_295 ≤ 4_294_967_295
-read-in-range true n h = h tt
-read-in-range false n h = omega arith
 
 -- Every row of 32-bit numbers makes a best arrival.
 abbrev pub best-read : ArrivalRow → BestArrival
 best-read row = record {
   arrival = cond (leb (row .task) 4_294_967_295) (row .arrival) 0;
   task = cond (leb (row .task) 4_294_967_295) (row .task) 4_294_967_295;
-  bounded = read-in-range (leb (row .task) 4_294_967_295) (row .task) (leb→le (row .task) 4_294_967_295);
+  bounded = cond-both (leb (row .task) 4_294_967_295) (row .task) 4_294_967_295 (λ n. n ≤ 4_294_967_295) (leb-true (row .task) 4_294_967_295) (λ e. omega arith);
 }
 
 abbrev pub best-arrivals : Kind BestArrival ArrivalRow

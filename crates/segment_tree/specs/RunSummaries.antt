@@ -1,8 +1,10 @@
 -- The kind of run summaries. Assumes nothing.
 use mathlib.Core.Bool.{Bool, true, false, cond, _&&_}
+use mathlib.Core.Path.{_≡_, refl}
 use Prim.Native.Nat.{ℕ, _+_, _≤_, min, max}
 use native.Mathlib.Omega.{arith}
-use lib.Dec.{T, leb, leb→le}
+use lib.Dec.{leb}
+use Rattle.std.proofs.shelf.Tests.{and-parts, cond-both, leb-true}
 use Rattle.segment_tree.specs.Kind.{Kind}
 use Rattle.segment_tree.specs.declared.runs.RunRow.{RunRow}
 use Rattle.segment_tree.specs.declared.runs.RunSummary.{RunSummary}
@@ -26,6 +28,14 @@ run-joined x y = record {
   bounded = omega arith;
 }
 
+-- When a run has ended whose processor is free from tick t on: after all its work, and not before its finish.
+abbrev pub ended : RunSummary → ℕ → ℕ
+ended x t = capped (max (t + x .work) (x .finish))
+
+-- A join is one run after the other: the right one begins where the left one has ended.
+abbrev pub InTurn : RunSummary → RunSummary → RunSummary → Type 0
+InTurn x y both = (t : ℕ) → ended both t ≡ ended y (ended x t)
+
 abbrev pub run-written : RunSummary → RunRow
 run-written x = record { work = x .work; finish = x .finish }
 
@@ -33,23 +43,17 @@ run-written x = record { work = x .work; finish = x .finish }
 abbrev pub makes-run : ℕ → ℕ → Bool
 makes-run work finish = leb work finish && leb finish 4_000_000_000
 
-pub read-in-order : (s t : Bool) (w f : ℕ) → (T s → w ≤ f) → cond (s && t) w 0 ≤ cond (s && t) f 0
-read-in-order true true w f h = h tt
-read-in-order true false w f h = omega arith
-read-in-order false t w f h = omega arith
-
-pub read-in-range : (s t : Bool) (f : ℕ) → (T t → f ≤ 4_000_000_000) → cond (s && t) f 0 ≤ 4_000_000_000
-read-in-range true true f h = h tt
-read-in-range true false f h = omega arith
-read-in-range false t f h = omega arith
+pub read-ordered : (b : Bool) (w f : ℕ) → (b ≡ true → w ≤ f) → cond b w 0 ≤ cond b f 0
+read-ordered true w f h = h refl
+read-ordered false w f h = omega arith
 
 -- Numbers that make no run summary read as the blank.
 abbrev pub run-read : RunRow → RunSummary
 run-read row = record {
   work = cond (makes-run (row .work) (row .finish)) (row .work) 0;
   finish = cond (makes-run (row .work) (row .finish)) (row .finish) 0;
-  ordered = read-in-order (leb (row .work) (row .finish)) (leb (row .finish) 4_000_000_000) (row .work) (row .finish) (leb→le (row .work) (row .finish));
-  bounded = read-in-range (leb (row .work) (row .finish)) (leb (row .finish) 4_000_000_000) (row .finish) (leb→le (row .finish) 4_000_000_000);
+  ordered = read-ordered (makes-run (row .work) (row .finish)) (row .work) (row .finish) (λ e. leb-true (row .work) (row .finish) (and-parts _ _ e .0));
+  bounded = cond-both (makes-run (row .work) (row .finish)) (row .finish) 0 (λ n. n ≤ 4_000_000_000) (λ e. leb-true (row .finish) 4_000_000_000 (and-parts _ _ e .1)) (λ e. omega arith);
 }
 
 abbrev pub run-summaries : Kind RunSummary RunRow

@@ -36,6 +36,7 @@ module _ {K R : Type 0} (kind : Kind K R) where
   abbrev pub joined-at : List R → ℕ → R
   joined-at rows k = kind .written (kind .joined (record-at rows (2 * k)) (record-at rows (2 * k + 1)))
 
+  -- Place k holds the join of its two children.
   abbrev pub Joins : List R → ℕ → Type 0
   Joins rows k = row-at rows k ≡ joined-at rows k
 

@@ -97,25 +97,35 @@ fn a_finish_below_the_work_makes_no_summary() -> Result<(), Fail> {
     check(RunSummary::new(0, LATEST + 1).is_none())
 }
 
+const fn arrival(arrival: u32, task: u32) -> BestArrival {
+    BestArrival { arrival, task }
+}
+
 #[test]
 fn the_greater_arrival_wins_and_then_the_lower_task() -> Result<(), Fail> {
     let cases = [
-        ((6, 9), (5, 3), 9),
-        ((5, 3), (6, 9), 9),
-        ((5, 7), (5, 3), 3),
+        (arrival(6, 9), arrival(5, 3), 9),
+        (arrival(5, 3), arrival(6, 9), 9),
+        (arrival(5, 7), arrival(5, 3), 3),
     ];
-    for ((arrival, task), (other_arrival, other_task), winner) in &cases {
-        let left = BestArrival {
-            arrival: *arrival,
-            task: *task,
-        };
-        let right = BestArrival {
-            arrival: *other_arrival,
-            task: *other_task,
-        };
-        check_eq(left.join(right).task, *winner)?;
+    for (left, right, winner) in &cases {
+        check_eq(left.join(*right).task, *winner)?;
     }
     Ok(())
+}
+
+#[test]
+fn a_tree_finds_the_greatest_arrival() -> Result<(), Fail> {
+    let mut rows = [ArrivalRow {
+        arrival: 9,
+        task: 1,
+    }; 512];
+    let mut tree = SegmentTree::<BestArrival>::over(&mut rows);
+    check_eq(tree.total().task, NO_TASK)?;
+    tree.set(9, arrival(6, 9));
+    tree.set(4, arrival(6, 4));
+    tree.set(200, arrival(5, 2));
+    check_eq(tree.total().task, 4)
 }
 
 #[test]

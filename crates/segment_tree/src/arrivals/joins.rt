@@ -1,7 +1,7 @@
 //! How best arrivals are joined.
 
 ghost use mathlib.Core.Path.{_≡_};
-ghost use Rattle.segment_tree.specs.BestArrivals.{best-arrivals, wins};
+ghost use Rattle.segment_tree.specs.BestArrivals.{best-arrivals, best-joined, wins, Winner};
 use crate::arrivals::ArrivalRow;
 use crate::arrivals::BestArrival;
 use crate::arrivals::NO_TASK;
@@ -28,7 +28,10 @@ pub impl Record for BestArrival as ArrivalJoins {
         }
     }
 
-    fn join(self, right: BestArrival) -> BestArrival {
+    fn join(self, right: BestArrival) -> BestArrival
+        ensures joined { λ r. ⌜ r ≡ best-joined self right ⌝ }
+        ensures winner { λ r. ⌜ Winner self right r ⌝ }
+    {
         if right.wins_over(&self) { right } else { self }
     }
 

@@ -4,7 +4,7 @@ ghost use mathlib.Core.Logic.{_⊎_};
 ghost use mathlib.Core.Path.{_≡_};
 ghost use Prim.Native.Nat.{_+_, _<_};
 ghost use Rattle.std.specs.Options.{Cases};
-ghost use Rattle.segment_tree.specs.RunSummaries.{capped, run-summaries};
+ghost use Rattle.segment_tree.specs.RunSummaries.{capped, run-joined, run-summaries, InTurn};
 use crate::record::Record;
 use crate::runs::LATEST;
 use crate::runs::RunRow;
@@ -57,7 +57,10 @@ pub impl Record for RunSummary as RunJoins {
         RunSummary { work: 0, finish: 0 }
     }
 
-    fn join(self, right: RunSummary) -> RunSummary {
+    fn join(self, right: RunSummary) -> RunSummary
+        ensures joined { λ r. ⌜ r ≡ run-joined self right ⌝ }
+        ensures turns { λ r. ⌜ InTurn self right r ⌝ }
+    {
         RunSummary {
             work: capped_sum(self.work, right.work),
             finish: capped_sum(self.finish, right.work).max(right.finish),

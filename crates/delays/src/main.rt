@@ -1,4 +1,5 @@
 //! Prints the delays of some sample links for the amounts of words that it reads, one a line.
+#![tactic(auto)]
 
 mod amounts;
 mod counted;

@@ -5,7 +5,7 @@ use Rattle.std.proofs.lemmas.List.{take_more, take_more_set}
 use Rattle.std.proofs.lemmas.Bool.{cond_both, leb-true, leb-false, le-leb, lt-leb}
 use Rattle.std.proofs.lemmas.Bool.Decides.{nat_tests}
 use Rattle.std.specs.Option.{option_or}
-use Rattle.std.specs.List.{AllByRecursion as All}
+use Rattle.std.specs.List.{AllByRecursion}
 use Rattle.refusal.proofs.FirstCheck.{Answers-checked}
 use Rattle.refusal.specs.Checks.{Answers, Rising}
 use Rattle.refusal.specs.declared.Refusal.{Refusal}
@@ -32,14 +32,14 @@ last_later x y rest =
     ap (λ i. get_or (x ∷ (y ∷ rest)) i (new_step 0 0)) at
 
 -- What is above the last amount is above them all.
-all_under : (amount : ℕ) (xs : List Step) → Made xs → (0 < length xs → (last_of xs).amount < amount) → All (λ t. t.amount < amount) xs
+all_under : (amount : ℕ) (xs : List Step) → Made xs → (0 < length xs → (last_of xs).amount < amount) → AllByRecursion (λ t. t.amount < amount) xs
 all_under amount [] made last = tt
 all_under amount (x ∷ []) made last = (last (omega arith), tt)
 all_under amount (x ∷ (y ∷ rest)) (_, _, after, made) last =
     let under = all_under amount (y ∷ rest) made (λ _. subst (λ s. s.amount < amount) (last_later x y rest) (last (omega arith))) in
     (omega (arith, after.0, under.0), under)
 
-made_with : (s : Step) (xs : List Step) → s.amount ≤ 65535 → s.delay ≤ 1000000 → All (λ t. t.amount < s.amount) xs → Made xs → Made (xs ++ (s ∷ []))
+made_with : (s : Step) (xs : List Step) → s.amount ≤ 65535 → s.delay ≤ 1000000 → AllByRecursion (λ t. t.amount < s.amount) xs → Made xs → Made (xs ++ (s ∷ []))
 made_with s [] size time under made = (size, time, tt, tt)
 made_with s (x ∷ xs) size time (here, under) (x-size, x-time, after, made) =
     (x-size, x-time, All-push (λ t. x.amount < t.amount) xs s after here, made_with s xs size time under made)

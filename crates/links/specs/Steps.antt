@@ -1,7 +1,7 @@
 -- What a table of steps holds and means, and when it refuses a step. Assumes nothing.
 use Rattle.std.specs.Prelude.{◌≡◌, ℕ, ◌-◌, ◌<◌, ◌≤◌, min, Bool, cond, not, ◌||◌, List, [], ◌∷◌, length, take, Some, None, Option, Result, ◌==◌, nat_le, nat_lt, slice_index_or}
 use Rattle.std.specs.Option.{option_or}
-use Rattle.std.specs.List.{ContainsAt as Has, AllByRecursion as All}
+use Rattle.std.specs.List.{ContainsAt, AllByRecursion}
 use Rattle.refusal.specs.Checks.{Check, checked}
 use Rattle.refusal.specs.declared.Refusal.{Refusal}
 use Rattle.refusal.specs.declared.Refusal.TheVariants.{TooManySteps, StepAmountOutOfRange, StepDelayOutOfRange}
@@ -38,10 +38,10 @@ step_answer steps amount delay = checked (step_checks steps amount delay) tt
 -- Steps as `new` and `step` put them into a table: the amounts rise, and each amount and delay is within its limit.
 abbrev pub Made : List Step → Type 0
 Made [] = Unit {0}
-Made (step ∷ rest) = (step.amount ≤ 65535) × (step.delay ≤ 1000000) × All (λ later. step.amount < later.amount) rest × Made rest
+Made (step ∷ rest) = (step.amount ≤ 65535) × (step.delay ≤ 1000000) × AllByRecursion (λ later. step.amount < later.amount) rest × Made rest
 
 -- `delay` is that of the step with the greatest amount not above `words`, and None where every amount is above `words`.
 abbrev pub Greatest : ℕ → List Step → Option ℕ → Type 0
-Greatest words steps None = All (λ step. words < step.amount) steps
+Greatest words steps None = AllByRecursion (λ step. words < step.amount) steps
 Greatest words steps (Some delay) =
-    (step : Step) × (Has steps step × (step.delay ≡ delay) × (step.amount ≤ words) × All (λ other. other.amount ≤ words → other.amount ≤ step.amount) steps)
+    (step : Step) × (ContainsAt steps step × (step.delay ≡ delay) × (step.amount ≤ words) × AllByRecursion (λ other. other.amount ≤ words → other.amount ≤ step.amount) steps)

@@ -1,4 +1,5 @@
 //! Links between processors: how many ticks a message takes.
+#![tactic(auto)]
 
 ghost use Rattle.std.specs.Prelude.{◌≡◌, ℕ, ◌≤◌, IfSome, Option};
 ghost use Rattle.links.specs.Facts.{Facts};

@@ -1,10 +1,10 @@
 //! Every refusal of the planner: what is wrong with a call, its number and the value it carries.
+#![tactic(auto)]
 
-ghost use Rattle.std.specs.Prelude.{◌≡◌, Some, None, Decides};
-ghost use Rattle.refusal.specs.Meaning.{meaning_of, shown_text};
+ghost use Rattle.std.specs.Prelude.{◌≡◌, ◌↔◌, IsTrue, Some};
+ghost use Rattle.refusal.specs.Meaning.{meaning_of, same_refusal, shown_text};
 ghost use Rattle.std.specs.Cmp.Rules.{comparing};
 ghost use Rattle.std.proofs.Common.{rules};
-ghost use Rattle.std.specs.Cmp as Keys;
 
 use std::error::Error;
 use std::fmt;
@@ -144,11 +144,14 @@ impl Refusal {
 
 // The number and the value tell the refusal.
 impl PartialEq for Refusal {
-    ghost equals = { λ x y r. Decides r (x ≡ y) };
+    ghost eq = { same_refusal };
 
-    ghost laws = { Keys.partial_equiv_from_equiv (Prim.search (comparing, rules)) };
+    ghost laws = { Prim.search (comparing, rules) };
 
-    fn eq(&self, other: &Refusal) -> bool {
+    fn eq(&self, other: &Refusal) -> bool
+        ensures value { result ≡ same_refusal self.now other.now }
+        ensures decides { IsTrue result ↔ (self.now ≡ other.now) }
+    {
         self.number() == other.number() && self.value() == other.value()
     }
 }

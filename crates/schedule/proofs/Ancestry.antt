@@ -1,6 +1,6 @@
 -- Ancestors: they have lower numbers, and a test tells who is one.
 use Rattle.std.proofs.Common.{◌≡◌, ℕ, zero, suc, ◌<◌, Bool, true, false, ◌&&◌, ◌||◌, eqb, ltb, length, get_or, sym, refl, ap, ◌∙◌, inl, inr, arith}
-use Rattle.std.specs.List.{ContainsAt as Has}
+use Rattle.std.specs.List.{ContainsAt}
 use Rattle.std.proofs.ByRecursion.{has_get_or}
 use Rattle.std.proofs.lemmas.Bool.{and_from, and_parts, both_ways, eq-eqb, eqb-true, lt-ltb, ltb-true, or_cases, or_left, or_right}
 use Rattle.schedule.specs.declared.Arc.{Arc}
@@ -12,7 +12,7 @@ ancestor_below g fw (by_arc a h p q) = omega (arith, (fw a h).0)
 ancestor_below g fw (through a h r q) = omega (arith, (fw a h).0, ancestor_below g fw r)
 
 -- one arc in front
-pub ancestor_before : (g : Graph) (a : Arc) → Has g.arcs a → {w v : ℕ} → a.second ≡ w → Ancestor g w v → Ancestor g a.first v
+pub ancestor_before : (g : Graph) (a : Arc) → ContainsAt g.arcs a → {w v : ℕ} → a.second ≡ w → Ancestor g w v → Ancestor g a.first v
 ancestor_before g a h e (by_arc b k p q) = through b k (by_arc a h refl (e ∙ sym p)) q
 ancestor_before g a h e (through b k r q) = through b k (ancestor_before g a h e r) q
 
@@ -36,7 +36,7 @@ leads_sound g u (suc n) v h =
     go (leads_sound g u n) (get_or g.arcs k no_arc) (has_get_or g.arcs k no_arc l)
     (place_passes (leads (leads_to g u n) u v) g.arcs no_arc l)
   where
-    go : ((w : ℕ) → leads_to g u n w ≡ true → Ancestor g u w) → (a : Arc) → Has g.arcs a → leads (leads_to g u n) u v a ≡ true
+    go : ((w : ℕ) → leads_to g u n w ≡ true → Ancestor g u w) → (a : Arc) → ContainsAt g.arcs a → leads (leads_to g u n) u v a ≡ true
         → Ancestor g u v
     go r a h t =
         let p = and_parts (eqb a.second v) (eqb a.first u || leads_to g u n a.first) t in
@@ -46,7 +46,7 @@ leads_sound g u (suc n) v h =
         ]
 
 -- an arc of the graph that leads passes the test
-leads_by : (g : Graph) (u n v : ℕ) (a : Arc) → Has g.arcs a → leads (leads_to g u n) u v a ≡ true → leads_to g u (suc n) v ≡ true
+leads_by : (g : Graph) (u n v : ℕ) (a : Arc) → ContainsAt g.arcs a → leads (leads_to g u n) u v a ≡ true → leads_to g u (suc n) v ≡ true
 unfolding leads_to
 leads_by g u n v a h t =
     let q : Arc → Bool = leads (leads_to g u n) u v in

@@ -1,6 +1,6 @@
 -- The front of a set, and the task that growth adds, are what joined best arrivals say.
 use Rattle.std.proofs.Common.{◌≡◌, ℕ, ◌<◌, ◌≤◌, true, false, ◌&&◌, eqb, ltb, leb, ◌⊎◌, List, [], ◌∷◌, map, length, get_or, sym, refl, ap, ◌∙◌, subst, inl, inr, ⊎_elim, arith}
-use Rattle.std.specs.List.{ContainsAt as Has, AllByRecursion as All}
+use Rattle.std.specs.List.{ContainsAt, AllByRecursion}
 use Rattle.std.proofs.ByRecursion.{All-get_or, all-has, All-weaker}
 use Rattle.std.proofs.lemmas.Bool.{and_cases, and_from, and_parts, cases_Bool, cond_both, cond-false, cond-true, eq-eqb, eqb-false, eqb-true, le-leb, ltb-false, ltb-true, or_cases, or_parts}
 use Rattle.segment_tree.specs.BestArrivals.{best_arrivals, best_read, no_arrival, wins}
@@ -24,8 +24,8 @@ over_over s t x p q =
 
 -- a total is the blank or one of the records, and not below any
 record Best (xs : List BestArrival) (t : BestArrival) : Type 0 where
-  one : (t ≡ no_arrival) ⊎ Has xs t
-  over : All (Over t) xs
+  one : (t ≡ no_arrival) ⊎ ContainsAt xs t
+  over : AllByRecursion (Over t) xs
 
 wins_over : (y x : BestArrival) → wins y x ≡ true → Over y x
 wins_over y x e =
@@ -80,13 +80,13 @@ module _ (g : Graph) (es : List ℕ) (S : Set) where
   -- the arc that brings what is not blank
   record From (u : ℕ) (x : BestArrival) : Type 0 where
     arc : Arc
-    has : Has g.arcs arc
+    has : ContainsAt g.arcs arc
     of : arc.first ≡ u
     into : enters S arc ≡ true
     arrives : x.arrival ≡ arrival g es arc
     named : x.task ≡ u
 
-  by_cases : (u : ℕ) → u ≤ 4_294_967_295 → (a : Arc) → Has g.arcs a
+  by_cases : (u : ℕ) → u ≤ 4_294_967_295 → (a : Arc) → ContainsAt g.arcs a
       → (arrival_by g es S u a ≡ no_arrival) ⊎ From u (arrival_by g es S u a)
   by_cases u l a h =
       ⊎_elim
@@ -107,7 +107,7 @@ module _ (g : Graph) (es : List ℕ) (S : Set) where
       (total_best (map (arrival_by g es S u) g.arcs)).one
 
   -- and not below the arrival of an arc from u that enters
-  from_high : (a : Arc) → Has g.arcs a → enters S a ≡ true → a.first ≤ 4_294_967_295
+  from_high : (a : Arc) → ContainsAt g.arcs a → enters S a ≡ true → a.first ≤ 4_294_967_295
       → arrival g es a ≤ (arrival_from g es S a.first).arrival
   from_high a h e l =
       let u : ℕ = a.first in
@@ -139,7 +139,7 @@ module _ (g : Graph) (es : List ℕ) (S : Set) where
         (from_cases h.0 (omega (arith, h.1, few))))
         (total_best leaves).one
 
-    first_small : (a : Arc) → Has g.arcs a → a.first < length leaves
+    first_small : (a : Arc) → ContainsAt g.arcs a → a.first < length leaves
     first_small a h = omega (arith, fw a h, room)
 
     is_front : best.arrival ≡ front g es S

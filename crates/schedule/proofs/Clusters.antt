@@ -1,6 +1,6 @@
 -- The cluster of a task: the task itself, and ancestors whose reach is the task's bound. The task runs last in it.
 use Rattle.std.proofs.Common.{◌≡◌, ℕ, zero, suc, ◌+◌, ◌<◌, ◌≤◌, true, false, ◌||◌, eqb, ◌⊎◌, List, [], ◌∷◌, ◌++◌, filter, sym, refl, ap, ◌∙◌, subst, inl, inr, ⊎_elim, arith}
-use Rattle.std.specs.List.{ContainsAt as Has, AllByRecursion as All}
+use Rattle.std.specs.List.{ContainsAt, AllByRecursion}
 use Rattle.std.proofs.ByRecursion.{all-has, All-weaker}
 use Rattle.std.proofs.lemmas.Bool.{cases_Bool, cases_eq, cond_both, cond-false, cond-true, eq-eqb, ltb-true, ne_eqb}
 use Rattle.schedule.specs.declared.Arc.{Arc}
@@ -77,13 +77,13 @@ module _ (g : Graph) (es : List ℕ) (fw : Forward g) (v : ℕ) where
   pub cluster_most : (u : ℕ) → cluster g es v u ≡ true → u ≤ v
   cluster_most u e = ⊎_elim (λ p. omega (arith, p)) (λ a. omega (arith, ancestor_below g fw a)) (cluster_cases u e)
 
-kept_none : (C : Set) (us : List ℕ) → All (λ u. C u ≡ false) us → filter C us ≡ []
+kept_none : (C : Set) (us : List ℕ) → AllByRecursion (λ u. C u ≡ false) us → filter C us ≡ []
 kept_none C [] h = refl
 kept_none C (u ∷ us) h = cond-false (C u) (u ∷ filter C us) (filter C us) h.0 ∙ kept_none C us h.1
 
 -- if C is K and v, and no task of K has a higher bound than v, then C runs K in order and then v
 kept_placed : (es : List ℕ) (C K : Set) (v : ℕ) (us : List ℕ) → C v ≡ true
-    → All (λ u. (C u ≡ K u) × (K u ≡ true → bound es u ≤ bound es v)) us → Pairs (Before es) us
+    → AllByRecursion (λ u. (C u ≡ K u) × (K u ≡ true → bound es u ≤ bound es v)) us → Pairs (Before es) us
     → filter C (placed es v us) ≡ filter K us ++ v ∷ []
 kept_placed es C K v [] c h s = cond-true (C v) (v ∷ []) [] c
 kept_placed es C K v (u ∷ us) c h s =
@@ -104,14 +104,14 @@ kept_placed es C K v (u ∷ us) c h s =
     Like : ℕ → Type 0
     Like x = (C x ≡ K x) × (K x ≡ true → bound es x ≤ bound es v)
 
-    later : sooner es v u ≡ true → (x : ℕ) → Has (u ∷ us) x → bound es v < bound es x
+    later : sooner es v u ≡ true → (x : ℕ) → ContainsAt (u ∷ us) x → bound es v < bound es x
     later e x i =
         ⊎_elim
         (λ p. subst (λ y. bound es v < bound es y) p (ltb-true (bound es v) (bound es u) e))
         (λ j. omega (arith, ltb-true (bound es v) (bound es u) e, all-has (Before es u) us x s.0 j))
         (has_cases u x us i)
 
-    late : sooner es v u ≡ true → (x : ℕ) → Has (u ∷ us) x → K x ≡ false
+    late : sooner es v u ≡ true → (x : ℕ) → ContainsAt (u ∷ us) x → K x ≡ false
     late e x i = ⊎_elim (λ k. absurd (omega (arith, later e x i, (all-has Like (u ∷ us) x h i).1 k))) (λ k. k) (cases_Bool (K x))
 
 module _ (g : Graph) (es : List ℕ) (fw : Forward g) (bs : Bounds g es) (v : ℕ) (small : v < tasks g) where
@@ -147,7 +147,7 @@ module _ (g : Graph) (es : List ℕ) (fw : Forward g) (bs : Bounds g es) (v : �
   pub run_fits : run g es v (others g es v) ≤ bound es v
   run_fits = omega (arith, others_reach)
 
-  pub arrival_fits : (a : Arc) → Has g.arcs a → cluster g es v a.second ≡ true → cluster g es v a.first ≡ false
+  pub arrival_fits : (a : Arc) → ContainsAt g.arcs a → cluster g es v a.second ≡ true → cluster g es v a.first ≡ false
       → arrival g es a ≤ bound es v
   arrival_fits a h e f = omega (arith, others_reach, front_high g es (cluster g es v) a h (enters_from (cluster g es v) a e f))
 

@@ -2,7 +2,7 @@
 -- run by the bounds alone.
 use Rattle.std.proofs.Common.{◌≡◌, ℕ, zero, suc, ◌+◌, ◌*◌, ◌<◌, ◌≤◌, max, true, false, List, [], ◌∷◌, ◌++◌, length, get_or, filter, sym, refl, ap, ◌∙◌, subst, ⊎_elim, mul-le-mul_left, arith}
 use native.Mathlib.Nat.{le-max_left, le-max_right}
-use Rattle.std.specs.List.{ContainsAt as Has, AllByRecursion as All}
+use Rattle.std.specs.List.{ContainsAt, AllByRecursion}
 use Rattle.std.proofs.ByRecursion.{All-weaker}
 use Rattle.std.proofs.lemmas.List.{get_or_append_left, get_or_push, length_push}
 use Rattle.std.proofs.lemmas.Bool.{cases_eq, cond_both, cond-false}
@@ -61,7 +61,7 @@ finish-append g C hs t (x ∷ xs) ys = finish-append g C hs (starts g C hs t x +
 
 -- a cluster's processor lags behind the run by the bounds by no more than s
 compare : (g : Graph) (es : List ℕ) (C K : Set) (hs : List ℕ) (c s : ℕ) (us : List ℕ)
-    → All (λ u. K u ≡ true → c * inputs C hs u g.arcs ≤ c * bound es u + s) us
+    → AllByRecursion (λ u. K u ≡ true → c * inputs C hs u g.arcs ≤ c * bound es u + s) us
     → (t u : ℕ) → c * t ≤ c * u + s → c * finish g C hs t (filter K us) ≤ c * run_from g es K u us + s
 compare g es C K hs c s [] h t u l = l
 compare g es C K hs c s (w ∷ ws) h t u l =
@@ -100,7 +100,7 @@ module _ (g : Graph) (es : List ℕ) (fw : Forward g) (bs : Bounds g es) (p q : 
           → (p + q) * (x + duration g v) ≤ (p + 2 * q) * bound es v + (p + q) * duration g v
       sum x h = omega arith
 
-      arc_fits : (w : ℕ) → cluster g es v w ≡ true → w ≤ v → (a : Arc) → Has g.arcs a → a.second ≡ w → cluster g es v a.first ≡ false
+      arc_fits : (w : ℕ) → cluster g es v w ≡ true → w ≤ v → (a : Arc) → ContainsAt g.arcs a → a.second ≡ w → cluster g es v a.first ≡ false
           → (p + q) * (get_or (homes g es v) a.first 0 + a.delay) ≤ (p + q) * bound es w + q * bound es v
       arc_fits w c l a h e f =
           let low : a.first < v = omega (arith, fw a h, e, l) in

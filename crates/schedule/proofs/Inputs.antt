@@ -1,6 +1,6 @@
 -- When the inputs that a cluster gets from outside have come: the last one by a tick if each one has.
 use Rattle.std.proofs.Common.{◌≡◌, ℕ, ◌+◌, ◌*◌, ◌≤◌, false, not, ◌&&◌, eqb, List, [], ◌∷◌, get_or, arith}
-use Rattle.std.specs.List.{AllByRecursion as All}
+use Rattle.std.specs.List.{AllByRecursion}
 use Rattle.std.proofs.lemmas.Bool.{and_from, and_parts, cond_both, cond-true, eq-eqb, eqb-true, not_from_false, not-true}
 use Rattle.schedule.specs.declared.Arc.{Arc}
 use Rattle.schedule.specs.Bounds.{Set}
@@ -25,12 +25,12 @@ module _ (C : Set) (hs : List ℕ) (w : ℕ) where
 
   -- all inputs have come, c times over, by m if each has
   pub inputs_fit : (c m : ℕ) (arcs : List Arc)
-      → All (λ a. a.second ≡ w → C a.first ≡ false → c * (get_or hs a.first 0 + a.delay) ≤ m) arcs → c * inputs C hs w arcs ≤ m
+      → AllByRecursion (λ a. a.second ≡ w → C a.first ≡ false → c * (get_or hs a.first 0 + a.delay) ≤ m) arcs → c * inputs C hs w arcs ≤ m
   inputs_fit c m [] h = omega arith
   inputs_fit c m (a ∷ rest) h = mul-max c (input C hs w a) (inputs C hs w rest) m (input_fits c m a h.0) (inputs_fit c m rest h.1)
 
   -- and each has when all have
   pub inputs_all : (m : ℕ) (arcs : List Arc) → inputs C hs w arcs ≤ m
-      → All (λ a. a.second ≡ w → C a.first ≡ false → get_or hs a.first 0 + a.delay ≤ m) arcs
+      → AllByRecursion (λ a. a.second ≡ w → C a.first ≡ false → get_or hs a.first 0 + a.delay ≤ m) arcs
   inputs_all m [] h = tt
   inputs_all m (a ∷ rest) h = ((λ e f. omega (arith, h, input_in a e f)), inputs_all m rest (omega (arith, h)))

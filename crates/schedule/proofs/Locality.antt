@@ -1,6 +1,6 @@
 -- What a task's bound is depends only on the bounds of the tasks below it.
 use Rattle.std.proofs.Common.{◌≡◌, ℕ, zero, suc, ◌+◌, ◌<◌, max, true, cond, ltb, List, [], ◌∷◌, sym, refl, ap, ◌∙◌, ap₂, ⊎_elim, arith}
-use Rattle.std.specs.List.{AllByRecursion as All}
+use Rattle.std.specs.List.{AllByRecursion}
 use Rattle.std.proofs.ByRecursion.{All-weaker}
 use Rattle.std.proofs.lemmas.Bool.{cases_Bool, cond-false}
 use Rattle.schedule.specs.declared.Arc.{Arc}
@@ -23,7 +23,7 @@ with_below : (v : ℕ) (K : Set) → Below v K → Below (suc v) (with K v)
 with_below v K low u e = ⊎_elim (λ p. omega (arith, p)) (λ k. omega (arith, low u k)) (with_cases K v u e)
 
 module _ (es fs : List ℕ) where
-  placed_agrees : (t : ℕ) (us : List ℕ) → bound es t ≡ bound fs t → All (λ u. bound es u ≡ bound fs u) us → placed es t us ≡ placed fs t us
+  placed_agrees : (t : ℕ) (us : List ℕ) → bound es t ≡ bound fs t → AllByRecursion (λ u. bound es u ≡ bound fs u) us → placed es t us ≡ placed fs t us
   placed_agrees t [] e h = refl
   placed_agrees t (u ∷ us) e h =
       ap₂ (λ x y. cond (ltb x y) (t ∷ u ∷ us) (u ∷ placed es t us)) e h.0 ∙ ap
@@ -37,7 +37,7 @@ module _ (es fs : List ℕ) where
       ∙ ap (placed fs n) (order_agrees n (λ u l. a u (omega (arith, l))))
 
   module _ (g : Graph) where
-    run_from_agrees : (K : Set) (t : ℕ) (us : List ℕ) → All (λ u. bound es u ≡ bound fs u) us → run_from g es K t us ≡ run_from g fs K t us
+    run_from_agrees : (K : Set) (t : ℕ) (us : List ℕ) → AllByRecursion (λ u. bound es u ≡ bound fs u) us → run_from g es K t us ≡ run_from g fs K t us
     run_from_agrees K t [] h = refl
     run_from_agrees K t (u ∷ us) h =
         run_from_agrees K (after g es K t u) us h.1 ∙ ap (λ x. run_from g fs K (cond (K u) (max t x + duration g u) t) us) h.0
@@ -51,13 +51,13 @@ module _ (es fs : List ℕ) where
       Same : Arc → Type 0
       Same b = enters S b ≡ true → arrival g es b ≡ arrival g fs b
 
-      same : All Same g.arcs
+      same : AllByRecursion Same g.arcs
       unfolding Same
       same =
           all_from_has Same g.arcs
           (λ b h e. omega (arith, a b.first (omega (arith, fw b h, low b.second (enters_parts S b e).0))))
 
-      latest_agrees : (arcs : List Arc) → All Same arcs → latest g es S arcs ≡ latest g fs S arcs
+      latest_agrees : (arcs : List Arc) → AllByRecursion Same arcs → latest g es S arcs ≡ latest g fs S arcs
       unfolding Same
       latest_agrees [] h = refl
       latest_agrees (b ∷ rest) h =

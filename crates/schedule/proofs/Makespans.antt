@@ -1,6 +1,6 @@
 -- The makespan is the least tick by which each end task has a row that has ended.
 use Rattle.std.proofs.Common.{◌≡◌, ℕ, zero, suc, ◌*◌, ◌<◌, ◌≤◌, min, true, cond, eqb, List, [], ◌∷◌, Some, None, Option, sym, refl, ap, ◌∙◌, subst, ⊎_elim, arith}
-use Rattle.std.specs.List.{ContainsAt as Has, AllByRecursion as All}
+use Rattle.std.specs.List.{ContainsAt, AllByRecursion}
 use Rattle.std.proofs.ByRecursion.{all-has, All-weaker, has_get_or}
 use Rattle.std.proofs.lemmas.Bool.{cases_eq, cases_lt, cond_both, cond-true, eqb-false, eqb-true}
 use Rattle.schedule.specs.declared.Row.{Row}
@@ -13,8 +13,8 @@ use Rattle.schedule.proofs.Multiples.{mul-max}
 module _ (g : Graph) (t : ℕ) where
   -- an answer is the earliest end among the rows of t: there is none, or a row has it and no row of t ends sooner
   abbrev Earliest : List Row → Option ℕ → Type 0
-  Earliest rows None = All (λ r. r.task ≡ t → ⊥) rows
-  Earliest rows (Some n) = ((r : Row) × Has rows r × (r.task ≡ t) × (end g r ≡ n)) × All (λ r. r.task ≡ t → n ≤ end g r) rows
+  Earliest rows None = AllByRecursion (λ r. r.task ≡ t → ⊥) rows
+  Earliest rows (Some n) = ((r : Row) × ContainsAt rows r × (r.task ≡ t) × (end g r ≡ n)) × AllByRecursion (λ r. r.task ≡ t → n ≤ end g r) rows
 
   earliest_more : (s : Row) (rows : List Row) → s.task ≡ t → (o : Option ℕ) → Earliest rows o → Earliest (s ∷ rows) (earlier (end g s) o)
   earliest_more s rows e None h = (
@@ -46,9 +46,9 @@ module _ (g : Graph) (t : ℕ) where
 
   -- a task that has a row ends first by some row, and by no row sooner
   abbrev First : List Row → ℕ → Type 0
-  First rows n = ((r : Row) × Has rows r × (r.task ≡ t) × (end g r ≡ n)) × ((r : Row) → Has rows r → r.task ≡ t → n ≤ end g r)
+  First rows n = ((r : Row) × ContainsAt rows r × (r.task ≡ t) × (end g r ≡ n)) × ((r : Row) → ContainsAt rows r → r.task ≡ t → n ≤ end g r)
 
-  pub first_end : (rows : List Row) (r : Row) → Has rows r → r.task ≡ t → First rows (or_zero (earliest g t rows))
+  pub first_end : (rows : List Row) (r : Row) → ContainsAt rows r → r.task ≡ t → First rows (or_zero (earliest g t rows))
   first_end rows r i e = go (earliest g t rows) (earliest_is rows)
     where
       go : (o : Option ℕ) → Earliest rows o → First rows (or_zero o)

@@ -1,6 +1,6 @@
 -- Which clusters run: those of the end tasks, and of every task that feeds a cluster that runs.
 use Rattle.std.proofs.Common.{◌≡◌, ℕ, zero, suc, ◌+◌, ◌-◌, ◌<◌, ◌≤◌, Bool, true, false, cond, not, ◌&&◌, eqb, ◌⊎◌, List, [], ◌∷◌, length, get_or, sym, refl, subst, inl, inr, ⊎_elim, arith}
-use Rattle.std.specs.List.{ContainsAt as Has, AllByRecursion as All}
+use Rattle.std.specs.List.{ContainsAt, AllByRecursion}
 use Rattle.std.proofs.ByRecursion.{all-has, has_append_left, has_append_right, has_get_or}
 use Rattle.std.proofs.lemmas.List.{length-append}
 use Rattle.std.proofs.lemmas.Bool.{and_cases, and_from, and_parts, both_ways, cases_Bool, cases_eq, cond_both, cond-true, eq-eqb, eqb-false, eqb-true, not-false, not_from_false, not-true, or_cases, or_left, or_parts, or_right}
@@ -14,7 +14,7 @@ use Rattle.schedule.proofs.Clusters.{cluster_most}
 use Rattle.schedule.proofs.Lists.{Pairs, has_append_cases, has_cases, has_here, has_none, has_there, pairs-append, pairs-get_or}
 
 -- a task with an outgoing arc
-pub arc_from : (t : ℕ) (arcs : List Arc) → none_from t arcs ≡ false → (a : Arc) × Has arcs a × (a.first ≡ t)
+pub arc_from : (t : ℕ) (arcs : List Arc) → none_from t arcs ≡ false → (a : Arc) × ContainsAt arcs a × (a.first ≡ t)
 arc_from t [] e = absurd (both_ways true e refl)
 arc_from t (a ∷ rest) e =
     ⊎_elim
@@ -22,7 +22,7 @@ arc_from t (a ∷ rest) e =
     (λ f. let r = arc_from t rest f in (r.0, has_there a r.0 rest r.1, r.2))
     (and_cases (not (eqb a.first t)) (none_from t rest) e)
 
-none_from_all : (t : ℕ) (arcs : List Arc) → none_from t arcs ≡ true → All (λ a. a.first ≡ t → ⊥) arcs
+none_from_all : (t : ℕ) (arcs : List Arc) → none_from t arcs ≡ true → AllByRecursion (λ a. a.first ≡ t → ⊥) arcs
 none_from_all t [] e = tt
 none_from_all t (a ∷ rest) e =
     let p = and_parts (not (eqb a.first t)) (none_from t rest) e in
@@ -36,7 +36,7 @@ ends_have_no_arc_out_lem g t = (
 
 -- the test of feeding finds every arc that feeds, and no other
 feeds_all : (C : Set) (u : ℕ) (arcs : List Arc) → C u ≡ false → feeds C u arcs ≡ false
-    → All (λ a. a.first ≡ u → C a.second ≡ true → ⊥) arcs
+    → AllByRecursion (λ a. a.first ≡ u → C a.second ≡ true → ⊥) arcs
 feeds_all C u [] f h = tt
 feeds_all C u (a ∷ rest) f h =
     let p = or_parts (eqb a.first u && (C a.second && not (C u))) (feeds C u rest) h in (
@@ -45,14 +45,14 @@ feeds_all C u (a ∷ rest) f h =
       feeds_all C u rest f p.1,
     )
 
-feeds_from : (C : Set) (u : ℕ) (arcs : List Arc) (a : Arc) → Has arcs a → a.first ≡ u → C a.second ≡ true → C u ≡ false
+feeds_from : (C : Set) (u : ℕ) (arcs : List Arc) (a : Arc) → ContainsAt arcs a → a.first ≡ u → C a.second ≡ true → C u ≡ false
     → feeds C u arcs ≡ true
 feeds_from C u arcs a h e c f =
     ⊎_elim (λ t. t) (λ n. absurd (all-has (λ a. a.first ≡ u → C a.second ≡ true → ⊥) arcs a (feeds_all C u arcs f n) h e c))
     (cases_Bool (feeds C u arcs))
 
 feeds_by : (C : Set) (u : ℕ) (arcs : List Arc) → feeds C u arcs ≡ true
-    → (a : Arc) × Has arcs a × (a.first ≡ u) × (C a.second ≡ true) × (C u ≡ false)
+    → (a : Arc) × ContainsAt arcs a × (a.first ≡ u) × (C a.second ≡ true) × (C u ≡ false)
 feeds_by C u [] h = absurd (both_ways false refl h)
 feeds_by C u (a ∷ rest) h =
     ⊎_elim
@@ -63,7 +63,7 @@ feeds_by C u (a ∷ rest) h =
     (or_cases (eqb a.first u && (C a.second && not (C u))) (feeds C u rest) h)
 
 module _ (g : Graph) (es : List ℕ) where
-  feeds_any_from : (u v : ℕ) (vs : List ℕ) → Has vs v → feeds (cluster g es v) u g.arcs ≡ true → feeds_any g es u vs ≡ true
+  feeds_any_from : (u v : ℕ) (vs : List ℕ) → ContainsAt vs v → feeds (cluster g es v) u g.arcs ≡ true → feeds_any g es u vs ≡ true
   feeds_any_from u v [] i h = absurd (has_none v i)
   feeds_any_from u v (w ∷ vs) i h =
       ⊎_elim
@@ -72,7 +72,7 @@ module _ (g : Graph) (es : List ℕ) where
       (λ j. or_right (feeds (cluster g es w) u g.arcs) (feeds_any g es u vs) (feeds_any_from u v vs j h))
       (has_cases w v vs i)
 
-  feeds_any_by : (u : ℕ) (vs : List ℕ) → feeds_any g es u vs ≡ true → (v : ℕ) × Has vs v × (feeds (cluster g es v) u g.arcs ≡ true)
+  feeds_any_by : (u : ℕ) (vs : List ℕ) → feeds_any g es u vs ≡ true → (v : ℕ) × ContainsAt vs v × (feeds (cluster g es v) u g.arcs ≡ true)
   feeds_any_by u [] h = absurd (both_ways false refl h)
   feeds_any_by u (v ∷ vs) h =
       ⊎_elim
@@ -87,13 +87,13 @@ module _ (g : Graph) (es : List ℕ) where
   abbrev newly : ℕ → List ℕ
   newly k = cond (chosen k) ((tasks g - suc k) ∷ []) []
 
-  newly_is : (k v : ℕ) → Has (newly k) v → (chosen k ≡ true) × (v ≡ tasks g - suc k)
+  newly_is : (k v : ℕ) → ContainsAt (newly k) v → (chosen k ≡ true) × (v ≡ tasks g - suc k)
   newly_is k v =
-      cond_both (chosen k) ((tasks g - suc k) ∷ []) [] (λ l. Has l v → (chosen k ≡ true) × (v ≡ tasks g - suc k))
+      cond_both (chosen k) ((tasks g - suc k) ∷ []) [] (λ l. ContainsAt l v → (chosen k ≡ true) × (v ≡ tasks g - suc k))
       (λ c h. (c, ⊎_elim (λ e. sym e) (λ n. absurd (has_none v n)) (has_cases (tasks g - suc k) v [] h)))
       (λ _ h. absurd (has_none v h))
 
-  marked_range : (k : ℕ) → k ≤ tasks g → (v : ℕ) → Has (marked g es k) v → (v < tasks g) × (tasks g ≤ v + k)
+  marked_range : (k : ℕ) → k ≤ tasks g → (v : ℕ) → ContainsAt (marked g es k) v → (v < tasks g) × (tasks g ≤ v + k)
   marked_range zero l v h = absurd (has_none v h)
   marked_range (suc k) l v h =
       ⊎_elim
@@ -101,7 +101,7 @@ module _ (g : Graph) (es : List ℕ) where
       (λ i. let e = (newly_is k v i).1 in (omega (arith, e, l), omega (arith, e, l)))
       (has_append_cases v (marked g es k) (newly k) h)
 
-  pub marks_below : (v : ℕ) → Has (marks g es) v → v < tasks g
+  pub marks_below : (v : ℕ) → ContainsAt (marks g es) v → v < tasks g
   marks_below v h = (marked_range (tasks g) (omega arith) v h).0
 
   pub mark_below : (i : ℕ) → i < length (marks g es) → get_or (marks g es) i 0 < tasks g
@@ -114,35 +114,35 @@ module _ (g : Graph) (es : List ℕ) where
       omega (arith, length-append (marked g es k) (newly k), length_marked k, one)
 
   -- marks stay
-  marked_stays : (v k n : ℕ) → k ≤ n → Has (marked g es k) v → Has (marked g es n) v
-  marked_stays v k zero h i = subst (λ x. Has (marked g es x) v) {x = k} {y = 0} (omega arith) i
+  marked_stays : (v k n : ℕ) → k ≤ n → ContainsAt (marked g es k) v → ContainsAt (marked g es n) v
+  marked_stays v k zero h i = subst (λ x. ContainsAt (marked g es x) v) {x = k} {y = 0} (omega arith) i
   marked_stays v k (suc n) h i =
       ⊎_elim
-      (λ e. subst (λ x. Has (marked g es x) v) e i)
+      (λ e. subst (λ x. ContainsAt (marked g es x) v) e i)
       (λ ne. has_append_left (marked g es n) (newly n) v (marked_stays v k n (omega (arith, h, ne)) i))
       (cases_eq k (suc n))
 
   -- a task is marked when its turn comes, or never
-  marked_early : (v k n : ℕ) → n ≤ tasks g → k ≤ n → tasks g ≤ v + k → Has (marked g es n) v → Has (marked g es k) v
+  marked_early : (v k n : ℕ) → n ≤ tasks g → k ≤ n → tasks g ≤ v + k → ContainsAt (marked g es n) v → ContainsAt (marked g es k) v
   marked_early v k zero s h l i = absurd (has_none v i)
   marked_early v k (suc n) s h l i =
       ⊎_elim
-      (λ e. subst (λ x. Has (marked g es x) v) (sym e) i)
+      (λ e. subst (λ x. ContainsAt (marked g es x) v) (sym e) i)
       (λ ne. ⊎_elim
       (λ j. marked_early v k n (omega (arith, s)) (omega (arith, h, ne)) l j)
       (λ j. absurd (omega (arith, (newly_is n v j).1, s, h, l, ne)))
       (has_append_cases v (marked g es n) (newly n) i))
       (cases_eq k (suc n))
 
-  mark : (k : ℕ) → chosen k ≡ true → Has (marked g es (suc k)) (tasks g - suc k)
+  mark : (k : ℕ) → chosen k ≡ true → ContainsAt (marked g es (suc k)) (tasks g - suc k)
   mark k c =
       has_append_right (marked g es k) (newly k) (tasks g - suc k)
-      (subst (λ l. Has l (tasks g - suc k)) (sym (cond-true (chosen k) ((tasks g - suc k) ∷ []) [] c)) (has_here (tasks g - suc k) []))
+      (subst (λ l. ContainsAt l (tasks g - suc k)) (sym (cond-true (chosen k) ((tasks g - suc k) ∷ []) [] c)) (has_here (tasks g - suc k) []))
 
   -- a task whose test holds at its turn is marked
-  mark_task : (t : ℕ) → t < tasks g → is_marked g es (marked g es (tasks g - suc t)) t ≡ true → Has (marks g es) t
+  mark_task : (t : ℕ) → t < tasks g → is_marked g es (marked g es (tasks g - suc t)) t ≡ true → ContainsAt (marks g es) t
   mark_task t small e =
-      subst (Has (marks g es)) same
+      subst (ContainsAt (marks g es)) same
       (marked_stays (tasks g - suc k) (suc k) (tasks g) (omega (arith, small))
       (mark k (subst (λ x. is_marked g es (marked g es k) x ≡ true) (sym same) e)))
     where
@@ -152,12 +152,12 @@ module _ (g : Graph) (es : List ℕ) where
       same : tasks g - suc k ≡ t
       same = omega (arith, small)
 
-  pub marked_end : (t : ℕ) → t < tasks g → is_end g t ≡ true → Has (marks g es) t
+  pub marked_end : (t : ℕ) → t < tasks g → is_end g t ≡ true → ContainsAt (marks g es) t
   marked_end t small e = mark_task t small (or_left (is_end g t) _ e)
 
   module _ (fw : Forward g) where
     -- what feeds a marked cluster is marked
-    pub marked_feeds : (v u : ℕ) → Has (marks g es) v → Feeds g es v u → Has (marks g es) u
+    pub marked_feeds : (v u : ℕ) → ContainsAt (marks g es) v → Feeds g es v u → ContainsAt (marks g es) u
     marked_feeds v u i f =
         mark_task u (omega (arith, low, small)) (or_right (is_end g u) (feeds_any g es u (marked g es k))
         (feeds_any_from u v (marked g es k) (marked_early v k (tasks g) (omega arith) (omega arith) (omega (arith, low, small)) i)
@@ -173,7 +173,7 @@ module _ (g : Graph) (es : List ℕ) where
         low = omega (arith, f.2, fw f.0 f.1, cluster_most g es fw v f.0.second f.3)
 
     -- a marked task is an end task, or feeds a marked cluster
-    marked_why : (k u : ℕ) → k ≤ tasks g → Has (marked g es k) u → (is_end g u ≡ true) ⊎ ((v : ℕ) × Has (marks g es) v × Feeds g es v u)
+    marked_why : (k u : ℕ) → k ≤ tasks g → ContainsAt (marked g es k) u → (is_end g u ≡ true) ⊎ ((v : ℕ) × ContainsAt (marks g es) v × Feeds g es v u)
     marked_why zero u l h = absurd (has_none u h)
     marked_why (suc k) u l h =
         ⊎_elim

@@ -2,7 +2,7 @@
 -- when it starts: their run has ended by then, and what enters them and v has come by then, so their reach, and with it the bound, is
 -- no later than the row's start.
 use Rattle.std.proofs.Common.{◌≡◌, ℕ, zero, suc, ◌+◌, ◌<◌, ◌≤◌, Bool, true, false, ◌&&◌, eqb, ltb, leb, ◌⊎◌, List, length, sym, refl, ap, ◌∙◌, subst, subst₂, inl, inr, arith}
-use Rattle.std.specs.List.{ContainsAt as Has}
+use Rattle.std.specs.List.{ContainsAt}
 use Rattle.std.proofs.lemmas.Bool.{and_from, and_parts, both_ways, cases_order, eq-eqb, eqb-true, le-leb, leb-true, lt-ltb, ltb-true}
 use Rattle.schedule.specs.declared.Arc.{Arc}
 use Rattle.schedule.specs.declared.Row.{Row}
@@ -94,7 +94,7 @@ module _ (g : Graph) (es : List ℕ) (fw : Forward g) (bs : Bounds g es) (rows :
   })
 
   -- an arc from a task that is not ahead, into one that starts on p by s
-  arrives : (p s v : ℕ) → ((u : ℕ) → u < v → Late u) → (a : Arc) → Has g.arcs a → ahead g rows p s v a.first ≡ false
+  arrives : (p s v : ℕ) → ((u : ℕ) → u < v → Late u) → (a : Arc) → ContainsAt g.arcs a → ahead g rows p s v a.first ≡ false
       → Ancestor g a.first v
       → (k : ℕ) → k < length rows → (at rows k).task ≡ a.second → (at rows k).processor ≡ p → (at rows k).start ≤ s → arrival g es a ≤ s
   unfolding Late
@@ -119,7 +119,7 @@ module _ (g : Graph) (es : List ℕ) (fw : Forward g) (bs : Bounds g es) (rows :
       K : Set
       K = ahead g rows p s v
 
-      entering : (a : Arc) → Has g.arcs a → enters (with K v) a ≡ true → arrival g es a ≤ s
+      entering : (a : Arc) → ContainsAt g.arcs a → enters (with K v) a ≡ true → arrival g es a ≤ s
       entering a h e =
           let parts = enters_parts (with K v) a e in
           let out = (with_false K v a.first parts.1).1 in

@@ -1,6 +1,6 @@
 -- The plan is a valid schedule.
 use Rattle.std.proofs.Common.{◌≡◌, ℕ, zero, suc, ◌+◌, ◌<◌, ◌≤◌, true, false, List, length, get_or, sym, refl, ap, ◌∙◌, subst, inl, inr, ⊎_elim, arith}
-use Rattle.std.specs.List.{ContainsAt as Has}
+use Rattle.std.specs.List.{ContainsAt}
 use Rattle.std.proofs.ByRecursion.{all-has, has_get_or}
 use Rattle.std.proofs.lemmas.Bool.{cases_Bool, cases_eq}
 use Rattle.schedule.specs.declared.Arc.{Arc}
@@ -27,31 +27,31 @@ module _ (g : Graph) (es : List ℕ) (fw : Forward g) (bs : Bounds g es) where
   -- the row of a marked task at its home
   pub record Own (t : ℕ) : Type 0 where
     pub row : Row
-    pub planned : Has (plan g es) row
+    pub planned : ContainsAt (plan g es) row
     pub home : Home g es t row.processor
     pub of : row.task ≡ t
     pub ends : end g row ≡ home_end g es t
 
-  pub own : (t : ℕ) → Has (marks g es) t → Own t
+  pub own : (t : ℕ) → ContainsAt (marks g es) t → Own t
   own t j = record {
     row = r.0;
     planned = rows_has g es 0 (marks g es) j.0 r.0 j.1
-        (subst (λ x. Has (home_rows g es (0 + j.0) x) r.0) (sym (j.2 0)) r.1);
+        (subst (λ x. ContainsAt (home_rows g es (0 + j.0) x) r.0) (sym (j.2 0)) r.1);
     home = subst (Home g es t) {x = j.0} {y = r.0.processor} (omega (arith, (home_row g es (0 + j.0) t r.0 r.1).on))
         (j.1, j.2 0);
     of = r.2;
     ends = r.3;
   }
     where
-      r : (r : Row) × Has (home_rows g es (0 + j.0) t) r × (r.task ≡ t) × (end g r ≡ home_end g es t)
+      r : (r : Row) × ContainsAt (home_rows g es (0 + j.0) t) r × (r.task ≡ t) × (end g r ≡ home_end g es t)
       r = home_last g es fw bs (0 + j.0) t (marks_below g es t j)
 
   -- what feeds a row
   abbrev Feeder : Arc → Row → Type 0
-  Feeder a r = (s : Row) × Has (plan g es) s × (s.task ≡ a.first) × InTime g a.delay s r
+  Feeder a r = (s : Row) × ContainsAt (plan g es) s × (s.task ≡ a.first) × InTime g a.delay s r
 
   -- a row r of the i-th processor
-  module _ (i : ℕ) (l : i < length (marks g es)) (r : Row) (m : Has (home_rows g es (0 + i) (get_or (marks g es) i 0)) r) where
+  module _ (i : ℕ) (l : i < length (marks g es)) (r : Row) (m : ContainsAt (home_rows g es (0 + i) (get_or (marks g es) i 0)) r) where
     abbrev v : ℕ
     v = get_or (marks g es) i 0
 
@@ -67,7 +67,7 @@ module _ (g : Graph) (es : List ℕ) (fw : Forward g) (bs : Bounds g es) where
     row_known : r.task < tasks g
     row_known = omega (arith, row_below, mark_below g es i l)
 
-    module _ (a : Arc) (h : Has g.arcs a) (e : a.second ≡ r.task) where
+    module _ (a : Arc) (h : ContainsAt g.arcs a) (e : a.second ≡ r.task) where
       second_in : C a.second ≡ true
       second_in =
           subst (λ x. C x ≡ true) (sym e) (all-has (λ u. C u ≡ true) (members g es v) r.task (members_cluster g es v) timing.of)
@@ -93,7 +93,7 @@ module _ (g : Graph) (es : List ℕ) (fw : Forward g) (bs : Bounds g es) where
             ((home_row g es (0 + i) v s.0 s.1).on ∙ sym timing.on, before),
       )
         where
-          s : (s : Row) × Has (home_rows g es (0 + i) v) s × (s.task ≡ a.first)
+          s : (s : Row) × ContainsAt (home_rows g es (0 + i) v) s × (s.task ≡ a.first)
           s =
               timed_has g C (homes g es v) (0 + i) 0 a.first (members g es v)
               (has_members g es v a.first (omega (arith, first_below)) k)
@@ -135,14 +135,14 @@ module _ (g : Graph) (es : List ℕ) (fw : Forward g) (bs : Bounds g es) where
       feeder : Feeder a r
       feeder = ⊎_elim inside outside (cases_Bool (C a.first))
 
-  pub plan_known : (r : Row) → Has (plan g es) r → r.task < tasks g
+  pub plan_known : (r : Row) → ContainsAt (plan g es) r → r.task < tasks g
   plan_known r i = let f = rows_homed g es 0 (marks g es) r i in row_known f.0 f.1 r f.2
 
-  plan_fed : (r : Row) → Has (plan g es) r → (a : Arc) → Has g.arcs a → a.second ≡ r.task → Feeder a r
+  plan_fed : (r : Row) → ContainsAt (plan g es) r → (a : Arc) → ContainsAt g.arcs a → a.second ≡ r.task → Feeder a r
   plan_fed r i = let f = rows_homed g es 0 (marks g es) r i in feeder f.0 f.1 r f.2
 
   -- a task is an end task, and has a home, or feeds a row of a higher task, and so has a row
-  plan_complete : (n t : ℕ) → tasks g ≤ t + n → t < tasks g → (r : Row) × Has (plan g es) r × (r.task ≡ t)
+  plan_complete : (n t : ℕ) → tasks g ≤ t + n → t < tasks g → (r : Row) × ContainsAt (plan g es) r × (r.task ≡ t)
   plan_complete zero t h small = absurd (omega arith)
   plan_complete (suc n) t h small =
       ⊎_elim

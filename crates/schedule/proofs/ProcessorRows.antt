@@ -1,6 +1,6 @@
 -- The rows of one processor of the plan, and of all: what holds of each row, and of two rows of one processor.
 use Rattle.std.proofs.Common.{◌≡◌, ℕ, zero, suc, ◌+◌, ◌<◌, ◌≤◌, true, ◌⊎◌, List, [], ◌∷◌, ◌++◌, length, get_or, filter, sym, refl, ◌∙◌, subst, inl, inr, ⊎_elim, arith}
-use Rattle.std.specs.List.{ContainsAt as Has, AllByRecursion as All}
+use Rattle.std.specs.List.{ContainsAt, AllByRecursion}
 use Rattle.std.proofs.ByRecursion.{all-has, all_has_itself, all_kept_by, has_append_left, has_append_right, kept_by_passes}
 use Rattle.schedule.specs.declared.Row.{Row}
 use Rattle.schedule.specs.Graph.{Forward, Graph, duration, tasks}
@@ -30,12 +30,12 @@ module _ (g : Graph) (C : Set) (hs : List ℕ) (p : ℕ) where
   -- what holds of each row of a processor that is free from tick t on and has run ws
   pub record Timed (t : ℕ) (ws : List ℕ) (r : Row) : Type 0 where
     pub on : r.processor ≡ p
-    pub of : Has ws r.task
+    pub of : ContainsAt ws r.task
     pub from : t ≤ r.start
     pub fed : inputs C hs r.task g.arcs ≤ r.start
     pub by : end g r ≤ finish g C hs t ws
 
-  pub timed_each : (t : ℕ) (ws : List ℕ) (r : Row) → Has (timed g C hs p t ws) r → Timed t ws r
+  pub timed_each : (t : ℕ) (ws : List ℕ) (r : Row) → ContainsAt (timed g C hs p t ws) r → Timed t ws r
   timed_each t [] r h = absurd (has_none r h)
   timed_each t (w ∷ ws) r h =
       ⊎_elim
@@ -54,8 +54,8 @@ module _ (g : Graph) (C : Set) (hs : List ℕ) (p : ℕ) where
   )
 
   -- a row starts as soon as the processor is free, the rows before it have ended, and its inputs have come
-  pub timed_soon : (R : ℕ → ℕ → Type 0) (m t : ℕ) (ws : List ℕ) → Pairs R ws → (r : Row) → Has (timed g C hs p t ws) r → t ≤ m
-      → ((s : Row) → Has (timed g C hs p t ws) s → R s.task r.task → end g s ≤ m) → inputs C hs r.task g.arcs ≤ m → r.start ≤ m
+  pub timed_soon : (R : ℕ → ℕ → Type 0) (m t : ℕ) (ws : List ℕ) → Pairs R ws → (r : Row) → ContainsAt (timed g C hs p t ws) r → t ≤ m
+      → ((s : Row) → ContainsAt (timed g C hs p t ws) s → R s.task r.task → end g s ≤ m) → inputs C hs r.task g.arcs ≤ m → r.start ≤ m
   timed_soon R m t [] h r i l f n = absurd (has_none r i)
   timed_soon R m t (w ∷ ws) h r i l f n =
       ⊎_elim
@@ -71,7 +71,7 @@ module _ (g : Graph) (C : Set) (hs : List ℕ) (p : ℕ) where
       rest : List Row
       rest = timed g C hs p (freed t w) ws
 
-  pub timed_has : (t w : ℕ) (ws : List ℕ) → Has ws w → (r : Row) × Has (timed g C hs p t ws) r × (r.task ≡ w)
+  pub timed_has : (t w : ℕ) (ws : List ℕ) → ContainsAt ws w → (r : Row) × ContainsAt (timed g C hs p t ws) r × (r.task ≡ w)
   timed_has t w [] i = absurd (has_none w i)
   timed_has t w (x ∷ ws) i =
       let row : Row = record { processor = p; task = x; start = starts g C hs t x } in
@@ -82,7 +82,7 @@ module _ (g : Graph) (C : Set) (hs : List ℕ) (p : ℕ) where
       (has_cases x w ws i)
 
   pub timed_last : (t : ℕ) (ws : List ℕ) (v : ℕ)
-      → (r : Row) × Has (timed g C hs p t (ws ++ v ∷ [])) r × (r.task ≡ v) × (end g r ≡ finish g C hs t (ws ++ v ∷ []))
+      → (r : Row) × ContainsAt (timed g C hs p t (ws ++ v ∷ [])) r × (r.task ≡ v) × (end g r ≡ finish g C hs t (ws ++ v ∷ []))
   timed_last t [] v = let row : Row = record { processor = p; task = v; start = starts g C hs t v } in (row, has_here row [], refl, refl)
   timed_last t (x ∷ ws) v =
       let f = timed_last (freed t x) ws v in (
@@ -94,52 +94,52 @@ module _ (g : Graph) (C : Set) (hs : List ℕ) (p : ℕ) where
       )
 
 module _ (g : Graph) (es : List ℕ) where
-  pub members_below : (v : ℕ) → All (λ u. u < suc v) (members g es v)
+  pub members_below : (v : ℕ) → AllByRecursion (λ u. u < suc v) (members g es v)
   members_below v = all_kept_by (cluster g es v) (λ u. u < suc v) (order es (suc v)) (order_below es (suc v))
 
-  pub members_cluster : (v : ℕ) → All (λ u. cluster g es v u ≡ true) (members g es v)
+  pub members_cluster : (v : ℕ) → AllByRecursion (λ u. cluster g es v u ≡ true) (members g es v)
   members_cluster v = kept_by_passes (cluster g es v) (order es (suc v))
 
   pub members_rise : (v : ℕ) → Pairs (Before es) (members g es v)
   members_rise v = pairs_kept (cluster g es v) (Before es) (order es (suc v)) (order_rises es (suc v))
 
-  pub has_members : (v u : ℕ) → u ≤ v → cluster g es v u ≡ true → Has (members g es v) u
+  pub has_members : (v u : ℕ) → u ≤ v → cluster g es v u ≡ true → ContainsAt (members g es v) u
   has_members v u l c = has_kept (cluster g es v) u (order es (suc v)) c (has_order es (suc v) u (omega (arith, l)))
 
   -- a row of processor p, the home of v
   abbrev pub HomeRow : ℕ → ℕ → Row → Type 0
   HomeRow p v r = Timed g (cluster g es v) (homes g es v) p 0 (members g es v) r
 
-  pub home_row : (p v : ℕ) (r : Row) → Has (home_rows g es p v) r → HomeRow p v r
+  pub home_row : (p v : ℕ) (r : Row) → ContainsAt (home_rows g es p v) r → HomeRow p v r
   home_row p v r h = timed_each g (cluster g es v) (homes g es v) p 0 (members g es v) r h
 
   pub home_pairs : (p v : ℕ) → Pairs (Follows g (Before es)) (home_rows g es p v)
   home_pairs p v = timed_pairs g (cluster g es v) (homes g es v) p (Before es) 0 (members g es v) (members_rise v)
 
-  pub rows_has : (p : ℕ) (vs : List ℕ) (i : ℕ) (r : Row) → i < length vs → Has (home_rows g es (p + i) (get_or vs i 0)) r
-      → Has (rows_from g es p vs) r
+  pub rows_has : (p : ℕ) (vs : List ℕ) (i : ℕ) (r : Row) → i < length vs → ContainsAt (home_rows g es (p + i) (get_or vs i 0)) r
+      → ContainsAt (rows_from g es p vs) r
   rows_has p [] i r l h = absurd (omega arith)
   rows_has p (v ∷ vs) zero r l h =
       has_append_left (home_rows g es p v) (rows_from g es (suc p) vs) r
-      (subst (λ x. Has (home_rows g es x v) r) {x = p + 0} {y = p} (omega arith) h)
+      (subst (λ x. ContainsAt (home_rows g es x v) r) {x = p + 0} {y = p} (omega arith) h)
   rows_has p (v ∷ vs) (suc i) r l h =
       has_append_right (home_rows g es p v) (rows_from g es (suc p) vs) r (rows_has (suc p) vs i r (omega (arith, l))
-      (subst (λ x. Has (home_rows g es x (get_or vs i 0)) r) {x = p + suc i} {y = suc p + i} (omega arith) h))
+      (subst (λ x. ContainsAt (home_rows g es x (get_or vs i 0)) r) {x = p + suc i} {y = suc p + i} (omega arith) h))
 
   -- a row of the homes of vs, from processor p on, belongs to one of them
   abbrev pub Homed : ℕ → List ℕ → Row → Type 0
-  Homed p vs r = (i : ℕ) × (i < length vs) × Has (home_rows g es (p + i) (get_or vs i 0)) r
+  Homed p vs r = (i : ℕ) × (i < length vs) × ContainsAt (home_rows g es (p + i) (get_or vs i 0)) r
 
-  pub rows_homed : (p : ℕ) (vs : List ℕ) (r : Row) → Has (rows_from g es p vs) r → Homed p vs r
+  pub rows_homed : (p : ℕ) (vs : List ℕ) (r : Row) → ContainsAt (rows_from g es p vs) r → Homed p vs r
   rows_homed p [] r h = absurd (has_none r h)
   rows_homed p (v ∷ vs) r h =
       ⊎_elim
-      (λ j. (0, omega arith, subst (λ x. Has (home_rows g es x v) r) {x = p} {y = p + 0} (omega arith) j))
+      (λ j. (0, omega arith, subst (λ x. ContainsAt (home_rows g es x v) r) {x = p} {y = p + 0} (omega arith) j))
       (λ j. let f = rows_homed (suc p) vs r j in (
         suc f.0,
         omega (arith, f.1),
         subst
-            (λ x. Has (home_rows g es x (get_or vs f.0 0)) r) {x = suc p + f.0} {y = p + suc f.0} (omega arith) f.2,
+            (λ x. ContainsAt (home_rows g es x (get_or vs f.0 0)) r) {x = suc p + f.0} {y = p + suc f.0} (omega arith) f.2,
       ))
       (has_append_cases r (home_rows g es p v) (rows_from g es (suc p) vs) h)
 
@@ -151,7 +151,7 @@ module _ (g : Graph) (es : List ℕ) where
   rows_in_turn p [] = tt
   rows_in_turn p (v ∷ vs) =
       pairs-append InTurn (home_rows g es p v) (rows_from g es (suc p) vs)
-      (pairs_weaker (Has (home_rows g es p v)) (Follows g (Before es)) InTurn
+      (pairs_weaker (ContainsAt (home_rows g es p v)) (Follows g (Before es)) InTurn
       (λ r s i j f. inr ((home_row p v r i).on ∙ sym (home_row p v s j).on, f)) (home_rows g es p v)
       (all_has_itself (home_rows g es p v)) (home_pairs p v))
       (rows_in_turn (suc p) vs)
@@ -160,9 +160,9 @@ module _ (g : Graph) (es : List ℕ) where
 
   module _ (fw : Forward g) (bs : Bounds g es) where
     -- the row of a task at its home
-    pub home_last : (p v : ℕ) → v < tasks g → (r : Row) × Has (home_rows g es p v) r × (r.task ≡ v) × (end g r ≡ home_end g es v)
+    pub home_last : (p v : ℕ) → v < tasks g → (r : Row) × ContainsAt (home_rows g es p v) r × (r.task ≡ v) × (end g r ≡ home_end g es v)
     home_last p v small =
-        subst (λ ws. (r : Row) × Has (timed g (cluster g es v) (homes g es v) p 0 ws) r × (r.task ≡ v) ×
+        subst (λ ws. (r : Row) × ContainsAt (timed g (cluster g es v) (homes g es v) p 0 ws) r × (r.task ≡ v) ×
         (end g r ≡ finish g (cluster g es v) (homes g es v) 0 ws))
         (sym (members_are g es fw bs v small))
         (timed_last g (cluster g es v) (homes g es v) p 0 (filter (others g es v) (order es v)) v)

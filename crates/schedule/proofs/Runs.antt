@@ -1,7 +1,7 @@
 -- The run of a set: it grows with the set, it ends no sooner than each member does alone, and no way to run the set on one processor,
 -- no task before its bound, ends sooner.
 use Rattle.std.proofs.Common.{◌≡◌, ℕ, ◌+◌, ◌<◌, ◌≤◌, max, Bool, true, false, cond, eqb, List, [], ◌∷◌, filter, sym, refl, ap, ◌∙◌, subst, inl, inr, ⊎_elim, arith}
-use Rattle.std.specs.List.{ContainsAt as Has, AllByRecursion as All}
+use Rattle.std.specs.List.{ContainsAt, AllByRecursion}
 use Rattle.std.proofs.ByRecursion.{all_kept_by, All-weaker, kept_by_passes}
 use Rattle.std.proofs.lemmas.Bool.{cases_eq, cond_both, cond-true, eq-eqb, ne_eqb}
 use Rattle.schedule.specs.Graph.{Graph, duration}
@@ -52,7 +52,7 @@ module _ (g : Graph) (es : List ℕ) where
   abbrev Runs : Set → ℕ → List ℕ → ℕ → Type 0
   Runs K t us u = (t ≤ clock K t us u) × (bound es u ≤ clock K t us u) × (clock K t us u + duration g u ≤ run_from g es K t us)
 
-  runs : (K : Set) (t : ℕ) (us : List ℕ) (u : ℕ) → Has us u → K u ≡ true → Runs K t us u
+  runs : (K : Set) (t : ℕ) (us : List ℕ) (u : ℕ) → ContainsAt us u → K u ≡ true → Runs K t us u
   runs K t [] u h k = absurd (has_none u h)
   runs K t (w ∷ ws) u h k =
       ⊎_elim
@@ -67,10 +67,10 @@ module _ (g : Graph) (es : List ℕ) where
       (cases_eq w u)
 
   -- a run ends no sooner than each member does alone
-  pub run_member : (K : Set) (t : ℕ) (us : List ℕ) (u : ℕ) → Has us u → K u ≡ true → bound es u + duration g u ≤ run_from g es K t us
+  pub run_member : (K : Set) (t : ℕ) (us : List ℕ) (u : ℕ) → ContainsAt us u → K u ≡ true → bound es u + duration g u ≤ run_from g es K t us
   run_member K t us u h k = let r = runs K t us u h k in omega (arith, r.1, r.2)
 
-  clocks_apart : (K : Set) (t : ℕ) (us : List ℕ) (x y : ℕ) → Has us x → Has us y → K x ≡ true → K y ≡ true → (x ≡ y → ⊥)
+  clocks_apart : (K : Set) (t : ℕ) (us : List ℕ) (x y : ℕ) → ContainsAt us x → ContainsAt us y → K x ≡ true → K y ≡ true → (x ≡ y → ⊥)
       → Separate (clock K t us) (duration g) x y
   clocks_apart K t [] x y i j k l ne = absurd (has_none x i)
   clocks_apart K t (w ∷ ws) x y i j k l ne =
@@ -85,10 +85,10 @@ module _ (g : Graph) (es : List ℕ) where
       (cases_eq w y))
       (cases_eq w x)
     where
-      tail : (z : ℕ) → Has (w ∷ ws) z → (w ≡ z → ⊥) → Has ws z
+      tail : (z : ℕ) → ContainsAt (w ∷ ws) z → (w ≡ z → ⊥) → ContainsAt ws z
       tail z h nz = ⊎_elim (λ e. absurd (nz e)) (λ m. m) (has_cases w z ws h)
 
-      first : (x y : ℕ) → K x ≡ true → w ≡ x → (w ≡ y → ⊥) → Has ws y → K y ≡ true
+      first : (x y : ℕ) → K x ≡ true → w ≡ x → (w ≡ y → ⊥) → ContainsAt ws y → K y ≡ true
           → clock K t (w ∷ ws) x + duration g x ≤ clock K t (w ∷ ws) y
       first x y k e ny m l =
           let a : after g es K t w ≡ max t (bound es x) + duration g x = subst (λ z. after g es K t z ≡ max t (bound es x) + duration g x)
@@ -120,7 +120,7 @@ module _ (g : Graph) (es : List ℕ) where
 
   -- runs of ts that start no earlier than the bounds, end by s and are apart leave room for them all from each one's bound on
   fits_from : (start : ℕ → ℕ) (s : ℕ) (ts : List ℕ)
-      → Pairs (Before es) ts → All (λ z. bound es z ≤ start z) ts → All (λ z. start z + duration g z ≤ s) ts → Pairs
+      → Pairs (Before es) ts → AllByRecursion (λ z. bound es z ≤ start z) ts → AllByRecursion (λ z. start z + duration g z ≤ s) ts → Pairs
       (Separate start (duration g)) ts → Fits s ts
   fits_from start s [] rise from to apart = tt
   fits_from start s (u ∷ us) rise from to apart = (
@@ -134,7 +134,7 @@ module _ (g : Graph) (es : List ℕ) where
 
   -- so running ts in their order, each as early as possible, ends by s
   run_all_within : (start : ℕ → ℕ) (s : ℕ) (ts : List ℕ)
-      → Pairs (Before es) ts → All (λ z. bound es z ≤ start z) ts → All (λ z. start z + duration g z ≤ s) ts → Pairs
+      → Pairs (Before es) ts → AllByRecursion (λ z. bound es z ≤ start z) ts → AllByRecursion (λ z. start z + duration g z ≤ s) ts → Pairs
       (Separate start (duration g)) ts → run_all 0 ts ≤ s
   run_all_within start s ts rise from to apart =
       run_all_by s 0 ts
@@ -157,7 +157,7 @@ module _ (g : Graph) (es : List ℕ) where
       In : ℕ → Type 0
       In z = (z < n) × (K z ≡ true)
 
-      in' : All In ts
+      in' : AllByRecursion In ts
       in' =
           all_both (λ z. z < n) (λ z. K z ≡ true) In (λ z l k. (l, k)) ts (all_kept_by K (λ z. z < n) (order es n) (order_below es n))
           (kept_by_passes K (order es n))

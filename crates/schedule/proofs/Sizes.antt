@@ -1,6 +1,6 @@
 -- For graphs within the limits every number that the planner computes is small.
 use Rattle.std.proofs.Common.{◌≡◌, ℕ, zero, suc, ◌+◌, ◌*◌, ◌<◌, ◌≤◌, max, true, List, [], ◌∷◌, length, get_or, filter, refl, ap, ⊎_elim, arith}
-use Rattle.std.specs.List.{ContainsAt as Has, AllByRecursion as All}
+use Rattle.std.specs.List.{ContainsAt, AllByRecursion}
 use Rattle.std.proofs.ByRecursion.{All-weaker}
 use Rattle.std.proofs.lemmas.List.{get_or_past, length-append}
 use Rattle.std.proofs.lemmas.Bool.{cases_lt, cond_both, false≢true}
@@ -30,7 +30,7 @@ run_none g es t (u ∷ us) = run_none g es t us
 
 -- a run that starts by m, of tasks whose bounds are at most m
 run_most : (g : Graph) (es : List ℕ) (K : Set) (m t : ℕ) (us : List ℕ)
-    → t ≤ m → All (λ u. (bound es u ≤ m) × (duration g u ≤ 1_000_000)) us → run_from g es K t us ≤ m + 1_000_000 * length us
+    → t ≤ m → AllByRecursion (λ u. (bound es u ≤ m) × (duration g u ≤ 1_000_000)) us → run_from g es K t us ≤ m + 1_000_000 * length us
 run_most g es K m t [] l h = omega arith
 run_most g es K m t (u ∷ us) l h =
     let step : after g es K t u ≤ m + 1_000_000 = cond_both (K u) (max t (bound es u) + duration g u) t (λ x. x ≤ m + 1_000_000)
@@ -59,7 +59,7 @@ length-home_rows g es p v =
       length-order es (suc v),
     )
 
-length-rows : (g : Graph) (es : List ℕ) (p : ℕ) (vs : List ℕ) → All (λ v. v < 256) vs → length (rows_from g es p vs) ≤ 256 * length vs
+length-rows : (g : Graph) (es : List ℕ) (p : ℕ) (vs : List ℕ) → AllByRecursion (λ v. v < 256) vs → length (rows_from g es p vs) ≤ 256 * length vs
 length-rows g es p [] h = omega arith
 length-rows g es p (v ∷ vs) h =
     omega (
@@ -77,7 +77,7 @@ module _ (g : Graph) (es : List ℕ) (fw : Forward g) (small : Small g) where
       ⊎_elim (λ l. small.short t l) (λ l. omega (arith, get_or_past g.durations t 0 l)) (cases_lt t (tasks g))
 
   -- an arc brings at most 2,000,000 more than the bound of its first task
-  arrival_most : (n : ℕ) → ((u : ℕ) → u < n → bound es u ≤ 2_000_000 * u) → (a : Arc) → Has g.arcs a → a.first < n
+  arrival_most : (n : ℕ) → ((u : ℕ) → u < n → bound es u ≤ 2_000_000 * u) → (a : Arc) → ContainsAt g.arcs a → a.first < n
       → arrival g es a ≤ 2_000_000 * a.first + 2_000_000
   arrival_most n lower a h l = omega (arith, lower a.first l, duration_most a.first, small.near a h)
 
@@ -104,7 +104,7 @@ module _ (g : Graph) (es : List ℕ) (fw : Forward g) (small : Small g) where
   module _ (n : ℕ) (few : n ≤ tasks g) (bs : BoundsTo g es n) where
     run_of : (v : ℕ) → v ≤ n → (K : Set) → run g es v K ≤ 768_000_000
     run_of v l K =
-        let each : All (λ u. (bound es u ≤ 512_000_000) × (duration g u ≤ 1_000_000)) (order es v) =
+        let each : AllByRecursion (λ u. (bound es u ≤ 512_000_000) × (duration g u ≤ 1_000_000)) (order es v) =
         All-weaker (λ u. u < v) (λ u. (bound es u ≤ 512_000_000) × (duration g u ≤ 1_000_000))
         (λ u k. (omega (arith, bound_most n bs u (omega (arith, k, l)), k, l, few, small.few), duration_most u)) (order es v)
         (order_below es v) in
@@ -126,7 +126,7 @@ module _ (g : Graph) (es : List ℕ) (fw : Forward g) (small : Small g) where
         omega
         (arith, home_timely g es fw bs 0 1 (λ a h. omega arith) v l, bound_most (tasks g) bs.least v l, duration_most v, l, small.few)
 
-    row_fits : (r : Row) → Has (plan g es) r → (r.processor < 256) × (r.task < 256) × (end g r ≤ 1_021_000_000)
+    row_fits : (r : Row) → ContainsAt (plan g es) r → (r.processor < 256) × (r.task < 256) × (end g r ≤ 1_021_000_000)
     row_fits r h =
         let f = rows_homed g es 0 (marks g es) r h in
         let v : ℕ = get_or (marks g es) f.0 0 in
@@ -146,7 +146,7 @@ module _ (g : Graph) (es : List ℕ) (fw : Forward g) (small : Small g) where
           (λ t l e. omega (arith, ends_by_home g es fw bs t l e, home_most t l)) in omega (arith, s);
       processors = omega (arith, length_marked g es (tasks g), small.few);
       row_count =
-          let below : All (λ v. v < 256) (marks g es) = all_from_has (λ v. v < 256) (marks g es)
+          let below : AllByRecursion (λ v. v < 256) (marks g es) = all_from_has (λ v. v < 256) (marks g es)
           (λ v h. omega (arith, marks_below g es v h, small.few)) in
           omega (arith, length-rows g es 0 (marks g es) below, length_marked g es (tasks g), small.few);
     }

@@ -1,6 +1,6 @@
 -- The worked cases. The bounds are those of the relation: growth finds them by computing, and what it finds are the bounds.
 use Rattle.std.proofs.Common.{◌≡◌, ℕ, zero, suc, ◌<◌, List, [], ◌∷◌, refl, subst, inl, inr, arith}
-use Rattle.std.specs.List.{AllByRecursion as All}
+use Rattle.std.specs.List.{AllByRecursion}
 use Rattle.std.proofs.ByRecursion.{All-get_or, all-has}
 use Rattle.schedule.specs.declared.Arc.{Arc}
 use Rattle.schedule.specs.declared.Row.{Row}
@@ -19,7 +19,7 @@ Leads g a = (a.first < a.second) × (a.second < tasks g)
 
 -- a graph whose arcs all lead forward, and what computes for it
 work_out : (g : Graph) (es : List ℕ) (cs : List (List ℕ)) (rows : List Row) (length : ℕ)
-    → All (Leads g) g.arcs → found_bounds g (tasks g) ≡ es → clusters g es (tasks g) ≡ cs → plan g es ≡ rows → makespan g rows ≡ length
+    → AllByRecursion (Leads g) g.arcs → found_bounds g (tasks g) ≡ es → clusters g es (tasks g) ≡ cs → plan g es ≡ rows → makespan g rows ≡ length
     → Worked g es cs rows length
 work_out g es cs rows length all found made planned long = record {
   forward = fw;
@@ -87,7 +87,7 @@ in_time = record {
   once = λ i j l m p e. (pairs-get_or OnOne (rows_to 8) no_row i j apart l m p).0 e;
   apart = λ i j l m p. (pairs-get_or OnOne (rows_to 8) no_row i j apart l m p).1;
   fed = λ i l a h e. all-has (Fed (at (rows_to 8) i)) (join 2).arcs a
-      (All-get_or (λ r. All (Fed r) (join 2).arcs) (rows_to 8) i no_row l fed) h e;
+      (All-get_or (λ r. AllByRecursion (Fed r) (join 2).arcs) (rows_to 8) i no_row l fed) h e;
   complete = λ t l. (t, l, own_task t l);
 }
   where
@@ -98,7 +98,7 @@ in_time = record {
     )
 
     -- nothing is sent to tasks 0 and 1, and what tasks 0 and 1 send to task 2 comes at 5 and 8
-    fed : All (λ r. All (Fed r) (join 2).arcs) (rows_to 8)
+    fed : AllByRecursion (λ r. AllByRecursion (Fed r) (join 2).arcs) (rows_to 8)
     fed = (
       ((λ e. absurd (omega (arith, e))), ((λ e. absurd (omega (arith, e))), tt)),
       (

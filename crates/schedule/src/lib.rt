@@ -1,5 +1,6 @@
 //! What a task graph, a schedule and a plan are, and the theorems about them: every definition that the planner's contracts
 //! cite is in this crate's `specs/`.
+#![tactic(auto)]
 
 mod cases;
 mod laws;

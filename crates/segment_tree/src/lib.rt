@@ -1,4 +1,5 @@
 //! A segment tree over 256 leaves, for any kind of record that can be joined.
+#![tactic(auto)]
 
 mod arrivals;
 mod record;

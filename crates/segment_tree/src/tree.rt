@@ -19,7 +19,7 @@ const ROOT: usize = 1;
 fn join_children<K: Record>(places: &mut [K::Row], place: usize)
     requires room { 512 ≤ length places.old }
     requires inner { place < 256 }
-    ensures { places.new ≡ slice_set places.old place (joined_at kind places.old place) }
+    ensures { places.new ≡ slice_set places.old place (joined_at K.kind places.old place) }
 {
     let left = K::from_row(places[2 * place]);
     let right = K::from_row(places[2 * place + 1]);
@@ -29,7 +29,7 @@ fn join_children<K: Record>(places: &mut [K::Row], place: usize)
 // Writes the record into a leaf, and joins anew what is above it, up to the root.
 fn set_leaf<K: Record>(places: &mut [K::Row], leaf: u8, record: K)
     requires room { 512 ≤ length places.old }
-    ensures { LeafSet kind places.old places.new leaf «record» }
+    ensures { LeafSet K.kind places.old places.new leaf «record» }
 {
     let mut place = LEAVES + usize::from(leaf);
     places[place] = record.to_row();
@@ -42,8 +42,8 @@ fn set_leaf<K: Record>(places: &mut [K::Row], leaf: u8, record: K)
 // The record at the root: in a sound tree, the join of all leaves in order.
 fn total_of<K: Record>(places: &[K::Row]) -> K
     requires room { 512 ≤ length places.now }
-    ensures root { result ≡ record_at kind places.now 1 }
-    ensures total { Sound kind places.now → result ≡ total kind (leaves kind places.now) }
+    ensures root { result ≡ record_at K.kind places.now 1 }
+    ensures total { Sound K.kind places.now → result ≡ total K.kind (leaves K.kind places.now) }
 {
     K::from_row(places[ROOT])
 }
@@ -51,7 +51,7 @@ fn total_of<K: Record>(places: &[K::Row]) -> K
 // Writes the blank into every place.
 fn blank_places<K: Record>(places: &mut [K::Row])
     requires room { 512 ≤ length places.old }
-    ensures { AllBlank kind places.old places.new }
+    ensures { AllBlank K.kind places.old places.new }
 {
     let blank = K::blank().to_row();
     for place in 0..PLACES {
@@ -71,7 +71,7 @@ impl<'a, K: Record> SegmentTree<'a, K> {
     /// A tree of blanks over the first 512 of the rows.
     pub fn over(rows: &'a mut [K::Row]) -> SegmentTree<'a, K>
         requires room { 512 ≤ length rows.old }
-        ensures blank { AllBlank kind rows.old result.places.now }
+        ensures blank { AllBlank K.kind rows.old result.places.now }
         ensures len { length result.places.now ≡ length rows.old }
         ensures same { result.places.ghost_name ≡ rows.entry.ghost_name }
     {
@@ -85,7 +85,7 @@ impl<'a, K: Record> SegmentTree<'a, K> {
     /// Blanks every leaf.
     pub fn blank(&mut self)
         requires room { 512 ≤ length self.old.places.now }
-        ensures blank { AllBlank kind self.old.places.now self.new.places.now }
+        ensures blank { AllBlank K.kind self.old.places.now self.new.places.now }
         ensures len { length self.new.places.now ≡ length self.old.places.now }
         ensures same { self.new.places.ghost_name ≡ self.old.places.ghost_name }
     {
@@ -95,7 +95,7 @@ impl<'a, K: Record> SegmentTree<'a, K> {
     /// Puts the record at a leaf. Costs nine writes and eight joins.
     pub fn set(&mut self, leaf: u8, record: K)
         requires room { 512 ≤ length self.old.places.now }
-        ensures set { LeafSet kind self.old.places.now self.new.places.now leaf «record» }
+        ensures set { LeafSet K.kind self.old.places.now self.new.places.now leaf «record» }
         ensures len { length self.new.places.now ≡ length self.old.places.now }
         ensures same { self.new.places.ghost_name ≡ self.old.places.ghost_name }
     {
@@ -105,8 +105,8 @@ impl<'a, K: Record> SegmentTree<'a, K> {
     /// The join of all leaves in order. Costs one read.
     pub fn total(&self) -> K
         requires room { 512 ≤ length self.now.places.now }
-        ensures root { result ≡ record_at kind self.now.places.now 1 }
-        ensures total { Sound kind self.now.places.now → result ≡ total kind (leaves kind self.now.places.now) }
+        ensures root { result ≡ record_at K.kind self.now.places.now 1 }
+        ensures total { Sound K.kind self.now.places.now → result ≡ total K.kind (leaves K.kind self.now.places.now) }
     {
         total_of(self.places)
     }

@@ -8,7 +8,7 @@ pub returns : goal.returns
 returns c =
     let size = c.args.size in
     let words = c.args.words in
-    let is : c.div-ceil.result * c.from-size.result ≡ padded size words = search rules in
+    let is : c.div_ceil.result * c.from-size.result ≡ padded size words = search rules in
     record {
       value = is;
       least = subst (Padded size words) (sym is) (padded_least size words);

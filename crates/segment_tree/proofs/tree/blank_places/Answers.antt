@@ -13,7 +13,7 @@ returns g c =
     let laws = g.met.K.Record in
     let old = c.args.places.now in
     let ended : c.loop-place.place ≡ 512 = omega arith in
-    let row = c.to-row-blank.ensures ∙ ap kind.written c.blank.ensures in
+    let row = c.to_row-blank.ensures ∙ ap kind.written c.blank.ensures in
     let is : c.loop-place.places ≡ blanked kind old = c.loop-place.invariant ∙ ap₂ (λ n y. replicate n y ++ drop n old) ended row in
     record {
       rows = is;

@@ -10,12 +10,12 @@ pub loop-place-preserved : goal.loop-place-preserved
 loop-place-preserved g c =
     let kind = g.K.Record.kind in
     let first = 256 + c.from-place.result in
-    let start = set c.args.places.now first c.to-row.result in
+    let start = set c.args.places.now first c.to_row.result in
     let now = c.loop-place.places in
     let p = c.loop-place.place in
     let inv = c.loop-place.invariant in
-    let is : c.join-children.new.places ≡ set now (p / 2) (joined_at kind now (p / 2)) = c.join-children.ensures in
-    let long = length-set c.args.places.now first c.to-row.result in
+    let is : c.join_children.new.places ≡ set now (p / 2) (joined_at kind now (p / 2)) = c.join_children.ensures in
+    let long = length-set c.args.places.now first c.to_row.result in
     let climbed = climbed_more kind start first p now (omega arith) (omega arith) inv.3 inv.4 in (
       omega arith,
       omega arith,
@@ -31,7 +31,7 @@ returns g c =
     let new = c.loop-place.places in
     let ended : c.loop-place.place ≡ 1 = omega arith in
     let leaf : c.from-place.result ≡ c.args.leaf = omega (arith, c.from-place.ensures) in
-    let row = c.to-row.ensures in
+    let row = c.to_row.ensures in
     let upper = transport (λ i. drop 256 new ≡ drop 256 (set old (256 + leaf i) (row i))) c.loop-place.invariant.2 in
     let climbed = transport (λ i. Climbed kind (set old (256 + leaf i) (row i)) (256 + leaf i) (ended i) new) c.loop-place.invariant.4 in
     leaf_set kind old new c.args.leaf c.args.record (omega arith) upper climbed

@@ -10,7 +10,7 @@ returns g c =
     let kind = g.K.Record.kind in
     let laws = g.met.K.Record in
     let rows = c.args.places.now in
-    let root : c.from-row.result ≡ record_at kind rows 1 = search (rules, get_or_default) in
+    let root : c.from_row.result ≡ record_at kind rows 1 = search (rules, get_or_default) in
     record {
       root = root;
       total = λ sound. root ∙ root_is_total kind laws.right laws.associative laws.kept rows c.requires.room sound;

@@ -26,9 +26,9 @@ impl Record for BestArrival {
 
     ghost left = { λ x. same_arrival (best_joined no_arrival x) x (Prim.grind (arith, nat_tests)) (Prim.grind (arith, nat_tests)) };
 
-    ghost right = { first_of (Prim.search rules, Prim.grind (arith, Self.row.coded.inj)) };
+    ghost right = { Prim.search rules };
 
-    ghost associative = { first_of (Prim.search rules, Prim.grind (arith, Self.row.coded.inj)) };
+    ghost associative = { Prim.search rules };
 
     ghost kept = { λ x. same_arrival (best_read (best_written x)) x (Prim.grind (arith, nat_tests)) (Prim.grind (arith, nat_tests)) };
 

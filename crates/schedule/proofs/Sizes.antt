@@ -151,5 +151,5 @@ module _ (g : Graph) (es : List ℕ) (fw : Forward g) (small : Small g) where
           omega (arith, length-rows g es 0 (marks g es) below, length_marked g es (tasks g), small.few);
     }
 
-pub numbers_fit : NumbersFit
-numbers_fit g es fw small = (growth_fits g es fw small, plan_fits g es fw small)
+pub numbers_fit_lem : NumbersFit
+numbers_fit_lem g es fw small = (growth_fits g es fw small, plan_fits g es fw small)

@@ -11,7 +11,7 @@ abbrev pub members : Graph → List ℕ → ℕ → List ℕ
 members g es v = filter (cluster g es v) (order es (suc v))
 
 -- when the input that an arc carries has come, if it leads from outside C to w: its first task u has ended at its home, at
--- get_or homes u 0, and then comes the delay; 0 if the arc leads elsewhere
+-- slice_index homes u, and then comes the delay; 0 if the arc leads elsewhere
 abbrev pub input : Set → List ℕ → ℕ → Arc → ℕ
 input C homes w a = cond (a.second == w && not (C a.first)) (slice_index homes a.first + a.delay) 0
 

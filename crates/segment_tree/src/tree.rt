@@ -1,6 +1,6 @@
 //! A segment tree over 256 leaves, kept in 512 lent rows, for any kind of record.
 
-ghost use Rattle.std.specs.Prelude.{◌≡◌, ◌<◌, ◌≤◌, length, set, slice_set};
+ghost use Rattle.std.specs.Prelude.{◌≡◌, ◌<◌, ◌≤◌, length, slice_set};
 ghost use Rattle.segment_tree.specs.Tree.{joined_at, leaves, record_at, total, AllBlank, LeafSet, Sound};
 
 use crate::record::Record;

@@ -1,5 +1,5 @@
 -- The two ways out of `step`: refused by the lowest number, and taken.
-use Rattle.std.proofs.Common.{◌<◌, length, sym, subst, rules}
+use Rattle.std.proofs.Common.{◌<◌, length, subst, sym, rules}
 use Rattle.links.specs.Steps.{kept, new_step, Made}
 use Rattle.links.proofs.StepLists.{kept_more, Made-push, step_lowest}
 use Rattle.links.proofs.steps.StepTable.step.Goals as goal
@@ -7,12 +7,13 @@ use Rattle.links.proofs.steps.StepTable.step.Goals as goal
 pub returns-in_err-check_step-clause-lowest : goal.returns-in_err-check_step-clause-lowest
 returns-in_err-check_step-clause-lowest c = step_lowest (kept c.args.self.now) c.args.amount c.args.delay c.from_residual.result (search rules)
 
-pub returns-clause-made : goal.returns-clause-made
-returns-clause-made c =
+-- The step stands behind those that were kept.
+pub returns-clause-held : goal.returns-clause-held
+returns-clause-held c =
     let table = c.args.self.now in
-    let a = c.args.amount in
-    let d = c.args.delay in
     let room : table.count < 16 = search rules in
     let within : table.count < length table.steps = search rules in
-    let held = kept_more table.steps table.count (new_step a d) room within in
-    λ was. subst Made (sym held) (Made-push (kept table) a d c.in_ok-check_step.ensures.answer was)
+    search (rules, kept_more table.steps table.count (new_step c.args.amount c.args.delay) room within)
+
+pub returns-clause-made : goal.returns-clause-made
+returns-clause-made c = λ was. subst Made (sym (returns-clause-held c)) (Made-push (kept c.args.self.now) c.args.amount c.args.delay c.in_ok-check_step.ensures.answer was)

@@ -3,4 +3,3 @@ pub mod Kind
 pub mod RunSummaries
 pub mod Tree
 pub mod Same
-pub mod InTurn

@@ -15,6 +15,7 @@ pub struct BestArrival {
     ghost bounded: { task ≤ 4_294_967_295 },
 }
 
+// Apart from `RunRow`: one type for both would lose the numbers' names, and take one kind's memory for the other's.
 /// A best arrival as it lies in memory.
 #[derive(Clone, Copy, PartialEq, Eq, Debug)]
 pub struct ArrivalRow {

@@ -20,10 +20,12 @@ pub trait Record: Sized {
     fn join(self, right: Self) -> Self
         ensures { result ≡ kind.joined self right };
 
+    // Not `From`, whose conversions lose nothing: some rows make no record.
     /// The record that a row stands for: the blank, if its numbers make no record.
     fn from_row(row: Self::Row) -> Self
         ensures { result ≡ kind.read row };
 
+    // Not `Into`, of which generic code knows only a relation: the laws below speak of a function.
     /// The row that the record is kept as.
     fn to_row(self) -> Self::Row
         ensures { result ≡ kind.written self };

@@ -16,6 +16,7 @@ pub struct RunSummary {
     ghost bounded: { finish ≤ 4_000_000_000 },
 }
 
+// Apart from `ArrivalRow`: one type for both would lose the numbers' names, and take one kind's memory for the other's.
 /// A run summary as it lies in memory.
 #[derive(Clone, Copy, PartialEq, Eq, Debug)]
 pub struct RunRow {

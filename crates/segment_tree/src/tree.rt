@@ -1,10 +1,9 @@
 //! A segment tree over 256 leaves, kept in 512 lent rows, for any kind of record.
 
-ghost use Rattle.std.specs.Prelude.{◌≡◌, ◌<◌, ◌≤◌, length, slice_set};
+ghost use Rattle.std.specs.Prelude.{◌≡◌, ◌<◌, ◌≤◌, length, replicate, slice_set};
 ghost use Rattle.segment_tree.specs.Tree.{joined_at, leaves, record_at, total, AllBlank, LeafSet, Sound};
 
 use crate::record::Record;
-use std::marker::PhantomData;
 
 /// How many leaves a tree has.
 pub const LEAVES: usize = 256;
@@ -14,6 +13,8 @@ pub const PLACES: usize = 512;
 
 // The place of the join of all leaves.
 const ROOT: usize = 1;
+
+// A tree hands the rows it was lent to the functions below. A slice has no invariant, so each of them asks for room.
 
 // Writes into a place the join of its two children.
 fn join_children<K: Record>(places: &mut [K::Row], place: usize)
@@ -33,6 +34,7 @@ fn set_leaf<K: Record>(places: &mut [K::Row], leaf: u8, record: K)
 {
     let mut place = LEAVES + usize::from(leaf);
     places[place] = record.to_row();
+    // The place halves at each turn: no range counts so.
     while place > ROOT {
         place /= 2;
         join_children::<K>(places, place);
@@ -48,45 +50,46 @@ fn total_of<K: Record>(places: &[K::Row]) -> K
     K::from_row(places[ROOT])
 }
 
+// Writes the value into each row. A slice's own `fill` asks for a clone that is known never to fail.
+fn fill<T: Copy>(rows: &mut [T], value: T)
+    ensures { rows.new ≡ replicate (length rows.old) value }
+{
+    for row in rows.iter_mut() {
+        *row = value;
+    }
+}
+
 // Writes the blank into every place.
 fn blank_places<K: Record>(places: &mut [K::Row])
     requires room { 512 ≤ length places.old }
     ensures { AllBlank K.kind places.old places.new }
 {
-    let blank = K::blank().to_row();
-    for place in 0..PLACES {
-        places[place] = blank;
-    }
+    fill(&mut places[..PLACES], K::blank().to_row());
 }
 
 /// A tree of one kind of record over rows that it is lent, and the guard of these rows: it begins blank, and when it ends,
-/// on whichever way out, it leaves its places blank.
+/// on whichever way out, it leaves its places blank. At every moment between it has its room and is sound.
 pub struct SegmentTree<'a, K: Record> {
     places: &'a mut [K::Row],
-    records: PhantomData<K>,
+    ghost room: { 512 ≤ length places.now },
+    ghost sound: { Sound K.kind places.now },
 }
 
-// `len` and `same` say that the tree holds on to the rows it was lent, so that its end is known to blank those.
+// `same` says that the tree holds on to the rows it was lent, so that its end is known to blank those: no type can say it.
 impl<'a, K: Record> SegmentTree<'a, K> {
     /// A tree of blanks over the first 512 of the rows.
     pub fn over(rows: &'a mut [K::Row]) -> SegmentTree<'a, K>
         requires room { 512 ≤ length rows.old }
         ensures blank { AllBlank K.kind rows.old result.places.now }
-        ensures len { length result.places.now ≡ length rows.old }
         ensures same { result.places.ghost_name ≡ rows.entry.ghost_name }
     {
         blank_places::<K>(rows);
-        SegmentTree {
-            places: rows,
-            records: PhantomData,
-        }
+        SegmentTree { places: rows }
     }
 
     /// Blanks every leaf.
     pub fn blank(&mut self)
-        requires room { 512 ≤ length self.old.places.now }
         ensures blank { AllBlank K.kind self.old.places.now self.new.places.now }
-        ensures len { length self.new.places.now ≡ length self.old.places.now }
         ensures same { self.new.places.ghost_name ≡ self.old.places.ghost_name }
     {
         blank_places::<K>(self.places);
@@ -94,9 +97,7 @@ impl<'a, K: Record> SegmentTree<'a, K> {
 
     /// Puts the record at a leaf. Costs nine writes and eight joins.
     pub fn set(&mut self, leaf: u8, record: K)
-        requires room { 512 ≤ length self.old.places.now }
         ensures set { LeafSet K.kind self.old.places.now self.new.places.now leaf «record» }
-        ensures len { length self.new.places.now ≡ length self.old.places.now }
         ensures same { self.new.places.ghost_name ≡ self.old.places.ghost_name }
     {
         set_leaf(self.places, leaf, record);
@@ -104,9 +105,8 @@ impl<'a, K: Record> SegmentTree<'a, K> {
 
     /// The join of all leaves in order. Costs one read.
     pub fn total(&self) -> K
-        requires room { 512 ≤ length self.now.places.now }
         ensures root { result ≡ record_at K.kind self.now.places.now 1 }
-        ensures total { Sound K.kind self.now.places.now → result ≡ total K.kind (leaves K.kind self.now.places.now) }
+        ensures total { result ≡ total K.kind (leaves K.kind self.now.places.now) }
     {
         total_of(self.places)
     }
@@ -115,10 +115,9 @@ impl<'a, K: Record> SegmentTree<'a, K> {
 // What the tree was lent is blank when it is given back.
 impl<K: Record> Drop for SegmentTree<'_, K> {
     fn drop(self)
-        requires room { 512 ≤ length self.places.now }
         ensures { AllBlank K.Record.kind self.entry.places.now self.exit.0.now }
     {
-        let SegmentTree { places, records: _ } = self;
+        let SegmentTree { places } = self;
         blank_places::<K>(places);
     }
 }

@@ -1,12 +1,10 @@
 //! How run summaries are made and joined.
 
-ghost use Rattle.std.specs.Prelude.{◌≡◌, ◌+◌, ◌<◌, ◌⊎◌, if◌then◌else◌, MatchOption};
-ghost use Rattle.std.proofs.Common.{⊎_elim, sym, ap, arith};
-ghost use Rattle.segment_tree.specs.RunSummaries.{capped, run_joined, run_summaries, InTurn, no_run, run_read, run_written, makes_run};
-ghost use Rattle.segment_tree.specs.Same.{same_run};
-ghost use Rattle.segment_tree.specs.InTurn.{in_turn};
+ghost use Rattle.std.specs.Prelude.{◌≡◌, ◌+◌, ◌<◌, ◌⊎◌, MatchOption};
+ghost use Rattle.std.proofs.Common.{arith};
 ghost use Rattle.std.proofs.lemmas.Bool.Decides.{nat_tests};
-ghost use Rattle.std.proofs.lemmas.Bool.{cases_Bool};
+ghost use Rattle.segment_tree.specs.RunSummaries.{capped, run_joined, run_read, run_summaries, InTurn};
+ghost use Rattle.segment_tree.specs.Same.{same_run, same_run_row};
 
 use crate::record::Record;
 use crate::runs::{LATEST, RunRow, RunSummary};
@@ -15,12 +13,7 @@ use crate::runs::{LATEST, RunRow, RunSummary};
 fn capped_sum(x: u32, y: u32) -> u32
     ensures { result ≡ capped (x + y) }
 {
-    let sum = u64::from(x) + u64::from(y);
-    if sum < u64::from(LATEST) {
-        sum as u32
-    } else {
-        LATEST
-    }
+    x.saturating_add(y).min(LATEST)
 }
 
 impl RunSummary {
@@ -49,29 +42,22 @@ impl RunSummary {
     }
 }
 
+#[tactic(auto, using(crate::specs::Same::same_run))]
 impl Record for RunSummary {
     type Row = RunRow;
 
     ghost kind = { run_summaries };
 
     // This rests on the order: with nothing before it a run finishes at its own finish, and not at its work.
-    ghost left = { λ x. same_run (run_joined no_run x) x (omega arith) (omega arith) };
+    ghost left = { Prim.grind (arith, nat_tests, same_run) };
 
-    ghost right = { λ x. same_run (run_joined x no_run) x (omega arith) (omega arith) };
+    ghost right = { Prim.grind (arith, nat_tests, same_run) };
 
-    // The finish of a join is where the right run ends after the left finish.
-    ghost associative = { λ x y z. same_run (run_joined (run_joined x y) z) (run_joined x (run_joined y z)) (omega arith) (sym (in_turn y z x.finish)) };
+    ghost associative = { Prim.grind (arith, nat_tests, same_run) };
 
-    ghost kept = { λ x. same_run (run_read (run_written x)) x (Prim.grind (arith, nat_tests)) (Prim.grind (arith, nat_tests)) };
+    ghost kept = { Prim.grind (arith, nat_tests, same_run) };
 
-    ghost unmade = { λ row none.
-        ⊎_elim
-        (λ yes. absurd (none (run_read row) (λ i. record {
-          work = ap (λ b. (if b then row.work else 0)) yes i;
-          finish = ap (λ b. (if b then row.finish else 0)) yes i;
-        })))
-        (λ not. same_run (run_read row) no_run (ap (λ b. (if b then row.work else 0)) not) (ap (λ b. (if b then row.finish else 0)) not))
-        (cases_Bool (makes_run row.work row.finish)) };
+    ghost unmade = { λ row none. Prim.grind (arith, nat_tests, same_run, same_run_row, none (run_read row)) };
 
     fn blank() -> RunSummary {
         RunSummary { work: 0, finish: 0 }
@@ -88,10 +74,7 @@ impl Record for RunSummary {
     }
 
     fn from_row(row: RunRow) -> RunSummary {
-        match RunSummary::new(row.work, row.finish) {
-            Some(run) => run,
-            None => RunSummary::blank(),
-        }
+        RunSummary::new(row.work, row.finish).unwrap_or(RunSummary::blank())
     }
 
     fn to_row(self) -> RunRow {

@@ -1,2 +1,1 @@
 pub mod FirstCheck
-pub mod Equality

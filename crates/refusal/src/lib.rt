@@ -1,16 +1,17 @@
 //! Every refusal of the planner: what is wrong with a call, its number and the value it carries.
 #![tactic(auto)]
 
-ghost use Rattle.std.specs.Prelude.{◌≡◌, ◌↔◌, IsTrue, Some};
-ghost use Rattle.refusal.specs.Meaning.{meaning_of, same_refusal, shown_text};
-ghost use Rattle.std.specs.Cmp.Rules.{comparing};
-ghost use Rattle.std.proofs.Common.{rules};
+ghost use Rattle.std.specs.Prelude.{◌≡◌, Some};
+ghost use Rattle.refusal.specs.Meaning.{meaning_of, shown_text};
 
+mod laws;
+
+pub use laws::equality_decides;
 use std::error::Error;
 use std::fmt;
 
 /// Why a call is refused.
-#[derive(Clone, Copy, Eq, Debug)]
+#[derive(Clone, Copy, PartialEq, Eq, Debug)]
 pub enum Refusal {
     /// 1: the duration is not 1 to 1,000,000.
     DurationOutOfRange,
@@ -142,20 +143,7 @@ impl Refusal {
     }
 }
 
-// The number and the value tell the refusal.
-impl PartialEq for Refusal {
-    ghost eq = { same_refusal };
-
-    ghost laws = { Prim.search (comparing, rules) };
-
-    fn eq(&self, other: &Refusal) -> bool
-        ensures value { result ≡ same_refusal self.now other.now }
-        ensures decides { IsTrue result ↔ (self.now ≡ other.now) }
-    {
-        self.number() == other.number() && self.value() == other.value()
-    }
-}
-
+// A derived text would say each number and each wording again beside its case; `number` and `wording` give them already.
 impl fmt::Display for Refusal {
     ghost output = { λ x. Some (shown_text x) };
 

@@ -1,34 +1,43 @@
 -- `padded` gives the words of the least number of whole packets, and no other number does. Assumes nothing.
-use Rattle.std.proofs.Common.{◌≡◌, ℕ, ◌+◌, ◌*◌, ◌/◌, ◌%◌, ◌<◌, ◌≤◌, eqb, Option, sym, refl, ap, ◌∙◌, ⊎_elim, mul-le-mul_right, add-mul, div-add-mod', arith}
+use Rattle.std.proofs.Common.{◌≡◌, ℕ, ◌+◌, ◌-◌, ◌*◌, ◌/◌, ◌%◌, ◌<◌, ◌≤◌, eqb, refl, ap, ◌∙◌, ⊎_elim, mul-le-mul_right, add-mul, div-add-mod', mod-lt, arith}
+use Rattle.std.proofs.Math.Nat.{mod_self, mod-eq_of_lt, sub-zero}
 use Rattle.std.proofs.lemmas.Bool.{cases_lt, cond_both, eqb-true, eqb-false}
-use Rattle.links.specs.Meaning.{packet_delay}
-use Rattle.links.specs.Padding.{LeastMultiple, Padded, packets, padded}
-use Rattle.links.specs.Shown.{enough}
+use Rattle.std.specs.Int.{next_multiple_of}
+use Rattle.links.specs.Padding.{LeastMultiple, Padded, padded}
 
--- Fewer packets than that do not hold the words.
-too_few : (size words k : ℕ) → 0 < size → k < packets size words → k * size < words
-too_few size words k some few =
+-- What the library calls the next multiple is one, less than a packet above the words.
+next_is_near : (size words : ℕ) → 0 < size → ((k : ℕ) × (next_multiple_of words size ≡ k * size)) × (next_multiple_of words size < words + size)
+next_is_near size words some =
     let split = div-add-mod' words size in
+    let rest = mod-lt words some in
     ⊎_elim
-    (λ (left : 0 < words % size). let full : k ≤ words / size = omega arith in omega (arith, mul-le-mul_right size full))
-    (λ (none : words % size ≤ 0). let full : k + 1 ≤ words / size = omega arith in omega (arith, mul-le-mul_right size full, add-mul k 1 size))
+    (λ (left : 0 < words % size).
+    let gap : (size - words % size) % size ≡ size - words % size = mod-eq_of_lt (omega arith) in
+    ((words / size + 1, omega (arith, add-mul (words / size) 1 size)), omega arith))
+    (λ (none : words % size ≤ 0).
+    let zero : words % size ≡ 0 = omega arith in
+    let gap : (size - words % size) % size ≡ 0 = ap (λ r. (size - r) % size) zero ∙ ap (λ n. n % size) (sub-zero size) ∙ mod_self size in
+    ((words / size, omega arith), omega arith))
     (cases_lt 0 (words % size))
 
-least_packets : (size words : ℕ) → 0 < size → LeastMultiple size words (packets size words * size)
-least_packets size words some = record {
-  multiple = (packets size words, refl);
-  enough = enough size words some;
-  least = λ k reach. ⊎_elim
-      (λ (few : k < packets size words). omega (arith, too_few size words k some few))
-      (λ (all : packets size words ≤ k). mul-le-mul_right size all)
-      (cases_lt k (packets size words));
-}
+-- A multiple less than a packet above the words is the least that holds them.
+near_is_least : (size words n j k : ℕ) → n ≡ j * size → n < words + size → words ≤ k * size → n ≤ k * size
+near_is_least size words n j k is near reach =
+    ⊎_elim
+    (λ (few : k < j). let more : k + 1 ≤ j = omega arith in absurd (omega (arith, mul-le-mul_right size more, add-mul k 1 size)))
+    (λ (all : j ≤ k). omega (arith, mul-le-mul_right size all))
+    (cases_lt k j)
+
+least_packets : (size words : ℕ) → 0 < size → LeastMultiple size words (next_multiple_of words size)
+least_packets size words some =
+    let found = next_is_near size words some in
+    record { multiple = found.0; enough = omega arith; least = λ k. near_is_least size words (next_multiple_of words size) found.0.0 k found.0.1 found.1 }
 
 pub padded_least : (size words : ℕ) → Padded size words (padded size words)
 padded_least size words =
-    cond_both (eqb size 0) words (packets size words * size) (Padded size words)
-    (λ e. ((λ _. refl), (λ some. let none : size ≡ 0 = eqb-true size 0 e in absurd (omega arith))))
-    (λ e. ((λ none. absurd (eqb-false size 0 e none)), least_packets size words))
+    cond_both (eqb size 0) words (next_multiple_of words size) (Padded size words)
+    (λ e. record { as_it_is = λ _. refl; whole = λ some. let none : size ≡ 0 = eqb-true size 0 e in absurd (omega arith) })
+    (λ e. record { as_it_is = λ none. absurd (eqb-false size 0 e none); whole = least_packets size words })
 
 -- Two least multiples are one number.
 same_least : (size words m n : ℕ) → LeastMultiple size words m → LeastMultiple size words n → m ≡ n
@@ -43,10 +52,6 @@ pub padded_only : (size words n : ℕ) → Padded size words n → n ≡ padded 
 padded_only size words n is =
     let own = padded_least size words in
     ⊎_elim
-    (λ (some : 0 < size). same_least size words n (padded size words) (is.1 some) (own.1 some))
-    (λ (none : size ≤ 0). let zero : size ≡ 0 = omega arith in omega (arith, is.0 zero, own.0 zero))
+    (λ (some : 0 < size). same_least size words n (padded size words) (is.whole some) (own.whole some))
+    (λ (none : size ≤ 0). let zero : size ≡ 0 = omega arith in omega (arith, is.as_it_is zero, own.as_it_is zero))
     (cases_lt 0 size)
-
--- So an answer of the packet layer is that of the link below at the least number of whole packets.
-pub asked_below : (below : ℕ → Option ℕ) (size words : ℕ) (r : Option ℕ) → r ≡ packet_delay below size words → (sent : ℕ) → Padded size words sent → r ≡ below sent
-asked_below below size words r is sent least = is ∙ ap below (sym (padded_only size words sent least))

@@ -1,7 +1,7 @@
 -- What a table of steps holds and means, and when it refuses a step. Assumes nothing.
-use Rattle.std.specs.Prelude.{◌≡◌, ℕ, ◌-◌, ◌<◌, ◌≤◌, min, Bool, cond, not, ◌||◌, List, [], ◌∷◌, length, take, Some, None, Option, Result, ◌==◌, nat_le, nat_lt, slice_index_or}
-use Rattle.std.specs.Option.{option_or}
-use Rattle.std.specs.List.{ContainsAt, AllByRecursion}
+use Rattle.std.specs.Prelude.{◌≡◌, ℕ, ◌-◌, ◌<◌, ◌≤◌, min, Bool, not, ◌||◌, List, [], ◌∷◌, length, reverse, take, Some, None, Option, Result, ◌==◌, nat_le, nat_lt, slice_index_or}
+use Rattle.std.specs.Option.{option_map}
+use Rattle.std.specs.List.{All, AllPairs, Contains, find}
 use Rattle.refusal.specs.Checks.{Check, checked}
 use Rattle.refusal.specs.declared.Refusal.{Refusal}
 use Rattle.refusal.specs.declared.Refusal.TheVariants.{TooManySteps, StepAmountOutOfRange, StepDelayOutOfRange}
@@ -15,8 +15,7 @@ kept table = take (min table.count 16) table.steps
 
 -- The delay of the last step, in their order, whose amount is not above `words`.
 abbrev pub last_reached : ℕ → List Step → Option ℕ
-last_reached words [] = None
-last_reached words (step ∷ rest) = option_or (last_reached words rest) (cond (nat_le step.amount words) (Some step.delay) None)
+last_reached words steps = option_map (λ step. step.delay) (find (λ step. nat_le step.amount words) (reverse steps))
 
 abbrev pub table_delay : StepTable → ℕ → Option ℕ
 table_delay table words = within_size words (within_time (last_reached words (kept table)))
@@ -37,11 +36,10 @@ step_answer steps amount delay = checked (step_checks steps amount delay) tt
 
 -- Steps as `new` and `step` put them into a table: the amounts rise, and each amount and delay is within its limit.
 abbrev pub Made : List Step → Type 0
-Made [] = Unit {0}
-Made (step ∷ rest) = (step.amount ≤ 65535) × (step.delay ≤ 1000000) × AllByRecursion (λ later. step.amount < later.amount) rest × Made rest
+Made steps = All (λ step. (step.amount ≤ 65535) × (step.delay ≤ 1000000)) steps × AllPairs (λ earlier later. earlier.amount < later.amount) steps
 
 -- `delay` is that of the step with the greatest amount not above `words`, and None where every amount is above `words`.
 abbrev pub Greatest : ℕ → List Step → Option ℕ → Type 0
-Greatest words steps None = AllByRecursion (λ step. words < step.amount) steps
+Greatest words steps None = All (λ step. words < step.amount) steps
 Greatest words steps (Some delay) =
-    (step : Step) × (ContainsAt steps step × (step.delay ≡ delay) × (step.amount ≤ words) × AllByRecursion (λ other. other.amount ≤ words → other.amount ≤ step.amount) steps)
+    (step : Step) × (Contains steps step × (step.delay ≡ delay) × (step.amount ≤ words) × All (λ other. other.amount ≤ words → other.amount ≤ step.amount) steps)

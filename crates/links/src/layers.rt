@@ -5,8 +5,8 @@ ghost use Rattle.links.specs.Meaning.{header_delay, packet_delay, relay_delay};
 ghost use Rattle.links.specs.Padding.{Padded, padded};
 ghost use Rattle.links.specs.Shown.{header_facts, packet_facts, relay_facts};
 
-use crate::limits::in_time;
-use crate::{Link, MOST_WORDS};
+use crate::Link;
+use crate::limits::{in_size, in_time};
 
 /// Puts a header of `words` words before each message.
 #[derive(Clone, Copy)]
@@ -38,15 +38,15 @@ impl<L: Link> Link for Packet<L> {
 
     ghost facts = { λ layer. packet_facts (L.Link.meaning layer.below) layer.size (L.Link.facts layer.below) };
 
+    // A method with a clause of its own states the trait's again: they are not taken over, and `asked` alone does not give them.
+    #[tactic(auto, using(crate::proofs::LeastMultiples::padded_only))]
     fn delay(&mut self, words: u32) -> Option<u32>
         ensures value { result ≡ packet_delay (L.Link.meaning self.old.below) self.old.size words }
         ensures same { packet_delay (L.Link.meaning self.new.below) self.new.size ≡ packet_delay (L.Link.meaning self.old.below) self.old.size }
         ensures bounded { IfSome result (λ ticks. ticks ≤ 1000000) }
         ensures asked { (sent : ℕ) → Padded self.old.size words sent → result ≡ L.Link.meaning self.old.below sent }
     {
-        if words > MOST_WORDS {
-            return None;
-        }
+        let words = in_size(words)?;
         self.below.delay(padded_words(words, self.size))
     }
 }
@@ -54,15 +54,12 @@ impl<L: Link> Link for Packet<L> {
 /// How many words are sent for `words`.
 fn padded_words(words: u32, size: u16) -> u32
     requires { words ≤ 65535 }
-    ensures value { result ≡ padded size words }
-    ensures least { Padded size words result }
-    ensures only { (sent : ℕ) → Padded size words sent → sent ≡ result }
+    ensures { result ≡ padded size words }
 {
     if size == 0 {
         return words;
     }
-    let size = u32::from(size);
-    words.div_ceil(size) * size
+    words.next_multiple_of(u32::from(size))
 }
 
 /// Sends each message over `hops` hops, one after the other.

@@ -3,8 +3,8 @@
 ghost use Rattle.links.specs.Meaning.{rate_delay};
 ghost use Rattle.links.specs.Shown.{rate_facts};
 
-use crate::limits::in_time;
-use crate::{Link, MOST_WORDS};
+use crate::Link;
+use crate::limits::{in_size, in_time};
 
 /// `startup` ticks to start, and `per_word` ticks for each word.
 #[derive(Clone, Copy)]
@@ -19,9 +19,7 @@ impl Link for RateLink {
     ghost facts = { λ link. rate_facts link.startup link.per_word };
 
     fn delay(&mut self, words: u32) -> Option<u32> {
-        if words > MOST_WORDS {
-            return None;
-        }
+        let words = in_size(words)?;
         in_time(u64::from(self.startup) + u64::from(self.per_word) * u64::from(words))
     }
 }

@@ -5,7 +5,7 @@ ghost use Rattle.refusal.specs.Checks.{Answers};
 ghost use Rattle.links.specs.Shown.{limited_facts};
 ghost use Rattle.links.specs.Steps.{kept, last_reached, table_delay, above_last, step_checks, step_answer, new_step, Made, Greatest};
 
-use crate::limits::in_time;
+use crate::limits::{in_size, in_time};
 use crate::{Link, MOST_TICKS, MOST_WORDS};
 use refusal::Refusal;
 
@@ -20,9 +20,11 @@ pub struct Step {
 }
 
 /// At most 16 steps: the first `count` of `steps`.
+// The steps lie in the table itself, as no link allocates memory. It has no invariant, since every value means something; what `new`
+// and `step` make of it, `Made` says in their contracts and in that of `look_up`.
 #[derive(Clone, Copy)]
 pub struct StepTable {
-    steps: [Step; 16],
+    steps: [Step; MOST_STEPS],
     count: usize,
 }
 
@@ -36,7 +38,7 @@ impl StepTable {
             steps: [Step {
                 amount: 0,
                 delay: 0,
-            }; 16],
+            }; MOST_STEPS],
             count: 0,
         }
     }
@@ -47,17 +49,14 @@ impl StepTable {
         ensures len { length result.now ≡ min self.now.count 16 }
     {
         let count = self.count.min(MOST_STEPS);
-        &self.steps[0..count]
+        &self.steps[..count]
     }
 
     /// Whether `amount` is above that of the last step, if there is one.
     fn is_above_last(&self, amount: u32) -> bool
         ensures { result ≡ above_last amount (kept self.now) }
     {
-        match self.steps().last() {
-            Some(last) => last.amount < amount,
-            None => true,
-        }
+        self.steps().last().is_none_or(|last| last.amount < amount)
     }
 
     /// The first check that a further step fails, if any.
@@ -78,6 +77,7 @@ impl StepTable {
     }
 
     /// Adds a step at the end.
+    #[tactic(auto, using(crate::proofs::StepLists::step_lowest, crate::proofs::StepLists::kept_made))]
     pub fn step(&mut self, amount: u32, delay: u32) -> Result<(), Refusal>
         ensures answer { result ≡ step_answer (kept self.old) amount delay }
         ensures lowest { Answers (step_checks (kept self.old) amount delay) tt result }
@@ -95,24 +95,21 @@ impl StepTable {
     fn reached(&self, words: u32) -> Option<u32>
         ensures { result ≡ last_reached words (kept self.now) }
     {
-        let mut reached = None;
-        for step in self.steps() {
-            if step.amount <= words {
-                reached = Some(step.delay);
-            }
-        }
-        reached
+        self.steps()
+            .iter()
+            .rev()
+            .find(|step| step.amount <= words)
+            .map(|step| step.delay)
     }
 
     /// The delay of a message of `words` words: in a table made by `new` and `step`, that of the step with the
     /// greatest amount not above `words`.
+    #[tactic(auto, using(crate::proofs::StepLists::table_greatest))]
     pub fn look_up(&self, words: u32) -> Option<u32>
         ensures value { result ≡ table_delay self.now words }
         ensures greatest { Made (kept self.now) → words ≤ 65535 → Greatest words (kept self.now) result }
     {
-        if words > MOST_WORDS {
-            return None;
-        }
+        let words = in_size(words)?;
         in_time(u64::from(self.reached(words)?))
     }
 }

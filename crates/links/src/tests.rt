@@ -13,7 +13,8 @@ const RATE: RateLink = RateLink {
     per_word: 1,
 };
 
-// Several links may read one table while it is borrowed.
+// Several links may read one table while it is borrowed. This cannot be said for every link behind `&`: `delay` takes `&mut self`,
+// and a table alone answers through `&self`.
 impl Link for &StepTable {
     ghost meaning = { λ table. table_delay table.now };
 
@@ -170,12 +171,18 @@ fn refused_steps_change_nothing(rt: HostRuntime) -> Result<(), Fail> {
         (65_536, 1_000_001, 17),
         (15, 1_000_001, 18),
     ] {
-        assert_eq!(rt; refused_with(table.step(amount, delay)), Some(number));
+        assert_eq!(rt;
+            table.step(amount, delay).map_err(Refusal::number),
+            Err(number)
+        );
         assert_eq!(rt; table.steps().len(), 15);
         expect(&rt, &mut table, &before);
     }
     table.step(65_535, 1_000_000)?;
-    assert_eq!(rt; refused_with(table.step(65_536, 1_000_001)), Some(16));
+    assert_eq!(rt;
+        table.step(65_536, 1_000_001).map_err(Refusal::number),
+        Err(16)
+    );
     assert_eq!(rt; table.steps().len(), 16);
     expect(
         &rt,
@@ -183,14 +190,6 @@ fn refused_steps_change_nothing(rt: HostRuntime) -> Result<(), Fail> {
         &[(65_534, Some(14)), (65_535, Some(1_000_000))],
     );
     Ok(())
-}
-
-// The number of the refusal, if it is one.
-fn refused_with(answer: Result<(), Refusal>) -> Option<u8> {
-    match answer {
-        Ok(()) => None,
-        Err(refusal) => Some(refusal.number()),
-    }
 }
 
 #[test]

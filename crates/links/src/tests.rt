@@ -1,8 +1,5 @@
 //! Worked delays, and that a borrowed table is a link.
 
-ghost use Rattle.links.specs.Shown.{limited_facts};
-ghost use Rattle.links.specs.Steps.{kept, last_reached, table_delay};
-
 use super::*;
 use refusal::Refusal;
 use std::process::Abort;
@@ -13,15 +10,15 @@ const RATE: RateLink = RateLink {
     per_word: 1,
 };
 
-// Several links may read one table while it is borrowed. This cannot be said for every link behind `&`: `delay` takes `&mut self`,
-// and a table alone answers through `&self`.
-impl Link for &StepTable {
-    ghost meaning = { λ table. table_delay table.now };
+// Several links may read one table while it is borrowed. What is asked behind `&` is a copy, since `delay` takes `&mut self`.
+impl<L: Link + Copy> Link for &L {
+    ghost meaning = { λ link. L.Link.meaning link.now };
 
-    ghost facts = { λ table. limited_facts (λ words. last_reached words (kept table.now)) };
+    ghost facts = { λ link. L.Link.facts link.now };
 
     fn delay(&mut self, words: u32) -> Option<u32> {
-        self.look_up(words)
+        let mut link = **self;
+        link.delay(words)
     }
 }
 

@@ -1,5 +1,5 @@
 -- `padded` gives the words of the least number of whole packets, and no other number does. Assumes nothing.
-use Rattle.std.proofs.Common.{◌≡◌, ℕ, ◌+◌, ◌-◌, ◌*◌, ◌/◌, ◌%◌, ◌<◌, ◌≤◌, eqb, refl, ap, ◌∙◌, ⊎_elim, mul-le-mul_right, add-mul, div-add-mod', mod-lt, arith}
+use Rattle.std.proofs.Common.{◌≡◌, ℕ, ◌+◌, ◌-◌, ◌*◌, ◌/◌, ◌%◌, ◌<◌, ◌≤◌, eqb, sym, refl, ap, ◌∙◌, subst, ⊎_elim, mul-le-mul_right, add-mul, div-add-mod', mod-lt, arith}
 use Rattle.std.proofs.Math.Nat.{mod_self, mod-eq_of_lt, sub-zero}
 use Rattle.std.proofs.lemmas.Bool.{cases_lt, cond_both, eqb-true, eqb-false}
 use Rattle.std.specs.Int.{next_multiple_of}
@@ -33,11 +33,14 @@ least_packets size words some =
     let found = next_is_near size words some in
     record { multiple = found.0; enough = omega arith; least = λ k. near_is_least size words (next_multiple_of words size) found.0.0 k found.0.1 found.1 }
 
-pub padded_least : (size words : ℕ) → Padded size words (padded size words)
+padded_least : (size words : ℕ) → Padded size words (padded size words)
 padded_least size words =
     cond_both (eqb size 0) words (next_multiple_of words size) (Padded size words)
     (λ e. record { as_it_is = λ _. refl; whole = λ some. let none : size ≡ 0 = eqb-true size 0 e in absurd (omega arith) })
     (λ e. record { as_it_is = λ none. absurd (eqb-false size 0 e none); whole = least_packets size words })
+
+pub least_padded : (size words n : ℕ) → n ≡ padded size words → Padded size words n
+least_padded size words n is = subst (Padded size words) (sym is) (padded_least size words)
 
 -- Two least multiples are one number.
 same_least : (size words m n : ℕ) → LeastMultiple size words m → LeastMultiple size words n → m ≡ n

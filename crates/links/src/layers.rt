@@ -54,7 +54,8 @@ impl<L: Link> Link for Packet<L> {
 /// How many words are sent for `words`.
 fn padded_words(words: u32, size: u16) -> u32
     requires { words ≤ 65535 }
-    ensures { result ≡ padded size words }
+    ensures value { result ≡ padded size words }
+    ensures least { Padded size words result }
 {
     if size == 0 {
         return words;

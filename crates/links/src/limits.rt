@@ -13,7 +13,7 @@ pub const MOST_TICKS: u32 = 1_000_000;
 pub(crate) fn in_size(words: u32) -> Option<u32>
     ensures { result ≡ within_size words (Some words) }
 {
-    Some(words).filter(|words| *words <= MOST_WORDS)
+    (words <= MOST_WORDS).then_some(words)
 }
 
 /// `ticks` as a delay, or `None` where it is too long.

@@ -11,11 +11,21 @@ pub struct Counted<L> {
     pub asked: u64,
 }
 
+/// Not asked yet.
+impl<L> From<L> for Counted<L> {
+    ghost from_gives = { λ below counted. counted ≡ record { below = below; asked = 0 } };
+
+    fn from(below: L) -> Counted<L> {
+        Counted { below, asked: 0 }
+    }
+}
+
 impl<L: Link> Link for Counted<L> {
     ghost meaning = { λ link. L.Link.meaning link.below };
 
     ghost facts = { λ link. L.Link.facts link.below };
 
+    // A method that has a clause of its own, here `counted`, has to say those of the trait again.
     fn delay(&mut self, words: u32) -> Option<u32>
         ensures value { result ≡ L.Link.meaning self.old.below words }
         ensures same { L.Link.meaning self.new.below ≡ L.Link.meaning self.old.below }

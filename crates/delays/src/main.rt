@@ -20,22 +20,19 @@ const LINKS: &str = "Delays in ticks, on
 fn run(rt: &HostRuntime) -> anyhow::Result<()> {
     let mut samples = Samples::new()?;
     rt.println(LINKS)?;
+    // Counted here and not by `enumerate`, since the last number is printed after the loop too.
     let mut number: u64 = 0;
     for line in BufReader::new(rt.alloc(), rt.stdin())?.split(rt.alloc(), b'\n') {
         let line = line?;
         number = number.saturating_add(1);
         match read_amount(line.as_slice().trim_ascii()) {
-            Some(words) => {
-                let delays = samples.delays(words);
-                println!(rt; "{words} words: {delays}")?
-            }
+            Some(words) => println!(rt; "{words} words: {}", samples.delays(words))?,
             None => println!(rt;
                 "line {number}: not an amount of words: write a whole number from 0 to 4294967295"
             )?,
         }
     }
-    let asked = samples.asked();
-    println!(rt; "{number} lines, {asked} questions")?;
+    println!(rt; "{number} lines, {} questions", samples.asked())?;
     Ok(())
 }
 

@@ -1,7 +1,7 @@
 //! Delays as a reader wants them.
 
-ghost use Rattle.std.specs.Prelude.{◌≡◌, Some};
-ghost use Rattle.delays.specs.Report.{delay_text, delays_text};
+ghost use Rattle.std.specs.Prelude.{◌≡◌, Some, map};
+ghost use Rattle.delays.specs.Report.{delay_text, delays_by, delays_text};
 
 use links::Link;
 use std::fmt;
@@ -33,25 +33,29 @@ pub fn ask<L: Link>(link: &mut L, words: u32) -> Delay
     }
 }
 
+/// Asks each of some links, in their order.
+pub fn ask_each<L: Link, const N: usize>(links: &mut [L; N], words: u32) -> [Delay; N]
+    ensures value { result ≡ delays_by (map L.Link.meaning links.old) words }
+    ensures same { map L.Link.meaning links.new ≡ map L.Link.meaning links.old }
+{
+    let mut delays = [Delay { ticks: None }; N];
+    for (i, link) in links.iter_mut().enumerate() {
+        delays[i] = ask(link, words);
+    }
+    delays
+}
+
 /// The delays of one amount of words on every sample link.
 #[derive(Clone, Copy)]
 pub struct Delays {
-    pub rate: Delay,
-    pub steps: Delay,
-    pub header_on_packets: Delay,
-    pub packets_on_header: Delay,
-    pub relay: Delay,
+    pub each: [Delay; 5],
 }
 
 impl fmt::Display for Delays {
     ghost output = { λ delays. Some (delays_text delays) };
 
     fn fmt<W: fmt::Write>(&self, f: &mut fmt::Formatter<W>) -> fmt::Result {
-        let rate = self.rate;
-        let steps = self.steps;
-        let header_first = self.header_on_packets;
-        let packets_first = self.packets_on_header;
-        let relay = self.relay;
+        let [rate, steps, header_first, packets_first, relay] = self.each;
         write!(
             f,
             "rate {rate}; steps {steps}; header on packets {header_first}; packets on header {packets_first}; relay {relay}"

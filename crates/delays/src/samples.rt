@@ -2,11 +2,13 @@
 
 ghost use Rattle.std.specs.Prelude.{◌≡◌, ◌-◌, ◌^◌, min, MatchResult};
 ghost use Rattle.links.specs.Steps.{kept};
-ghost use Rattle.delays.specs.Sampled.{sample_steps, delays_of, asked_of, Sampled};
+ghost use Rattle.delays.specs.Report.{delays_by};
+ghost use Rattle.delays.specs.Sample.{sample_delay, sample_facts};
+ghost use Rattle.delays.specs.Sampled.{sample_steps, meanings_of, asked_of, Sampled};
 
 use crate::counted::Counted;
-use crate::report::{Delays, ask};
-use links::{Header, Packet, RateLink, Relay, StepTable};
+use crate::report::{Delays, ask_each};
+use links::{Header, Link, Packet, RateLink, Relay, StepTable};
 use refusal::Refusal;
 
 /// 2 ticks to start, and 1 for each word.
@@ -15,13 +17,36 @@ const RATE: RateLink = RateLink {
     per_word: 1,
 };
 
+/// A sample link: one of five types, and a link itself. A list of `dyn Link` would need boxes, and so `new` could fail.
+#[derive(Clone, Copy)]
+pub enum Sample {
+    Rate(RateLink),
+    Steps(StepTable),
+    HeaderOnPackets(Header<Packet<RateLink>>),
+    PacketsOnHeader(Packet<Header<RateLink>>),
+    Relay(Relay<RateLink>),
+}
+
+impl Link for Sample {
+    ghost meaning = { sample_delay };
+
+    ghost facts = { sample_facts };
+
+    fn delay(&mut self, words: u32) -> Option<u32> {
+        match self {
+            Sample::Rate(link) => link.delay(words),
+            Sample::Steps(link) => link.delay(words),
+            Sample::HeaderOnPackets(link) => link.delay(words),
+            Sample::PacketsOnHeader(link) => link.delay(words),
+            Sample::Relay(link) => link.delay(words),
+        }
+    }
+}
+
+/// The five in the order in which a line names them.
 #[derive(Clone, Copy)]
 pub struct Samples {
-    rate: Counted<RateLink>,
-    steps: Counted<StepTable>,
-    header_on_packets: Counted<Header<Packet<RateLink>>>,
-    packets_on_header: Counted<Packet<Header<RateLink>>>,
-    relay: Counted<Relay<RateLink>>,
+    links: [Counted<Sample>; 5],
 }
 
 /// A table of three steps.
@@ -33,12 +58,6 @@ fn sample_table() -> Result<StepTable, Refusal>
     table.step(100, 40)?;
     table.step(10_000, 900)?;
     Ok(table)
-}
-
-fn counted<L>(below: L) -> Counted<L>
-    ensures { result ≡ record { below = below; asked = 0 } }
-{
-    Counted { below, asked: 0 }
 }
 
 impl Samples {
@@ -54,35 +73,34 @@ impl Samples {
             below: RATE,
             words: 8,
         };
-        Ok(Samples {
-            rate: counted(RATE),
-            steps: counted(sample_table()?),
-            header_on_packets: counted(Header {
+        let links = [
+            Sample::Rate(RATE),
+            Sample::Steps(sample_table()?),
+            Sample::HeaderOnPackets(Header {
                 below: packets,
                 words: 8,
             }),
-            packets_on_header: counted(Packet {
+            Sample::PacketsOnHeader(Packet {
                 below: header,
                 size: 10,
             }),
-            relay: counted(Relay {
+            Sample::Relay(Relay {
                 below: RATE,
                 hops: 3,
             }),
+        ];
+        Ok(Samples {
+            links: links.map(Counted::from),
         })
     }
 
     /// The delays of `words` words on every link.
     pub fn delays(&mut self, words: u32) -> Delays
-        ensures value { result ≡ delays_of self.old words }
-        ensures same { delays_of self.new ≡ delays_of self.old }
+        ensures value { result.each ≡ delays_by (meanings_of self.old) words }
+        ensures same { meanings_of self.new ≡ meanings_of self.old }
     {
         Delays {
-            rate: ask(&mut self.rate, words),
-            steps: ask(&mut self.steps, words),
-            header_on_packets: ask(&mut self.header_on_packets, words),
-            packets_on_header: ask(&mut self.packets_on_header, words),
-            relay: ask(&mut self.relay, words),
+            each: ask_each(&mut self.links, words),
         }
     }
 
@@ -90,11 +108,9 @@ impl Samples {
     pub fn asked(&self) -> u64
         ensures { result ≡ min (asked_of self.now) (2 ^ 64 - 1) }
     {
-        self.rate
-            .asked
-            .saturating_add(self.steps.asked)
-            .saturating_add(self.header_on_packets.asked)
-            .saturating_add(self.packets_on_header.asked)
-            .saturating_add(self.relay.asked)
+        self.links
+            .iter()
+            .map(|link| link.asked)
+            .fold(0, u64::saturating_add)
     }
 }

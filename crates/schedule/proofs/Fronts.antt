@@ -7,7 +7,6 @@ use Rattle.schedule.specs.declared.Arc.{Arc}
 use Rattle.schedule.specs.Graph.{Forward, Graph, tasks}
 use Rattle.schedule.specs.Bounds.{Set, arrival, enters, front, latest}
 use Rattle.schedule.specs.Growth.{lowest, next}
-use Rattle.schedule.specs.Laws.{FrontIsLeast}
 use Rattle.schedule.proofs.Lists.{all_from_has, has_here, has_there}
 
 module _ (g : Graph) (es : List ℕ) where
@@ -117,6 +116,3 @@ module _ (g : Graph) (es : List ℕ) where
       n : Lowest S (front g es S) g.arcs
       n = lowest_found S (front g es S) g.arcs
           (omega (arith, fw some.0 some.1.0, next_low S some.0 some.1.0 some.1.1 some.1.2))
-
-pub front_is_least_lem : FrontIsLeast
-front_is_least_lem g es K m = (λ h a i e. omega (arith, h, front_high g es K a i e), front_low g es K m)

@@ -1,5 +1,6 @@
 //! What the definitions that compute come to, in words that name no computation. Each law is the contract of a function that does
-//! nothing.
+//! nothing. The function names the lemma that proves it; where the check does not get from the lemma to the contract by itself, the
+//! function's `Answers.antt` names it.
 
 ghost use Rattle.schedule.specs.Laws.{EndsHaveNoArcOut, FrontIsLeast, GrowthAddsTheLowest, MakespanIsLeast, MarksAreNeeded, OrderIsSorted, PlanStartsWhenReady, RunIsShortest};
 
@@ -24,21 +25,25 @@ pub fn run_is_shortest()
 {}
 
 /// The front of a set is the least tick by which what every arc into it carries has come.
+#[tactic(auto, using(crate::proofs::Fronts::front_high, crate::proofs::Fronts::front_low))]
 pub fn front_is_least()
     ensures { FrontIsLeast }
 {}
 
 /// While the run of its set is below the front, growth adds the lowest first task of the arcs whose arrival is the front.
+#[tactic(auto, using(crate::proofs::GrowthTurns::growth_adds_the_lowest_lem))]
 pub fn growth_adds_the_lowest()
     ensures { GrowthAddsTheLowest }
 {}
 
 /// The marked tasks are the end tasks and those that feed the cluster of a marked task, and no others.
+#[tactic(auto, using(crate::proofs::Marks::marks_are_needed_lem))]
 pub fn marks_are_needed()
     ensures { MarksAreNeeded }
 {}
 
 /// Each marked task's home runs its cluster, and starts each copy as soon as the one before has ended and its inputs have come.
+#[tactic(auto, using(crate::proofs::PlanStarts::plan_starts_when_ready_lem))]
 pub fn plan_starts_when_ready()
     ensures { PlanStartsWhenReady }
 {}

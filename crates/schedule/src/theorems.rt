@@ -1,5 +1,6 @@
 //! The theorems on bounds, growth and plans. Each is the contract of a function that does nothing: the crate is proved only with
-//! the theorem. Durations may be 0 in all of them.
+//! the theorem. The function names the lemma that proves it; where the check does not get from the lemma to the contract by itself, the
+//! function's `Answers.antt` names it. Durations may be 0 in all of them.
 
 ghost use Rattle.schedule.specs.Arrivals.{FrontsAreJoinedArrivals};
 ghost use Rattle.schedule.specs.Sizes.{NumbersFit};
@@ -17,17 +18,20 @@ pub fn growth_attains_the_least()
 {}
 
 /// No valid schedule, on any number of processors and with any copies, starts a task before its bound.
+#[tactic(auto, using(crate::proofs::NoEarlier::no_schedule_starts_earlier_lem))]
 pub fn no_schedule_starts_earlier()
     ensures { NoScheduleStartsEarlier }
 {}
 
 /// The plan is a valid schedule.
+#[tactic(auto, using(crate::proofs::PlanValid::plan_is_valid_lem))]
 pub fn plan_is_valid()
     ensures { PlanIsValid }
 {}
 
 /// The plan is short: if p × delay is at most q × the first task's duration on every arc, then (p + q) × its length is at most
 /// (p + 2q) × the length of every valid schedule.
+#[tactic(auto, using(crate::proofs::PlanShort::plan_is_short_lem))]
 pub fn plan_is_short()
     ensures { PlanIsShort }
 {}
@@ -38,11 +42,13 @@ pub fn numbers_fit()
 {}
 
 /// A run is what the joined run summaries of its tasks say: from tick t on, the greater of t + work and finish.
+#[tactic(auto, using(crate::proofs::Summaries::runs_are_joined_summaries_lem))]
 pub fn runs_are_joined_summaries()
     ensures { RunsAreJoinedSummaries }
 {}
 
 /// The front of a set, and the task that growth adds to it, are what the joined best arrivals of the tasks say.
+#[tactic(auto, using(crate::proofs::Arrivals::fronts_are_joined_arrivals_lem))]
 pub fn fronts_are_joined_arrivals()
     ensures { FrontsAreJoinedArrivals }
 {}

@@ -1,18 +1,17 @@
 -- Ancestors: they have lower numbers, and a test tells who is one.
-use Rattle.std.proofs.Common.{◌≡◌, ℕ, zero, suc, ◌<◌, Bool, true, false, ◌&&◌, ◌||◌, eqb, ltb, length, get_or, sym, refl, ap, ◌∙◌, inl, inr, arith}
-use Rattle.std.specs.List.{ContainsAt}
-use Rattle.std.proofs.ByRecursion.{has_get_or}
-use Rattle.std.proofs.lemmas.Bool.{and_from, and_parts, both_ways, eq-eqb, eqb-true, lt-ltb, ltb-true, or_cases, or_left, or_right}
+use Rattle.std.proofs.Common.{◌≡◌, ℕ, zero, suc, ◌<◌, Bool, true, false, ◌&&◌, ◌||◌, eqb, refl, sym, ap, ◌∙◌, inl, inr, arith}
+use Rattle.std.specs.List.{Any, Contains, list_any}
+use Rattle.std.proofs.lemmas.Bool.{and_from, and_parts, both_ways, eq-eqb, eqb-true, or_cases, or_left, or_right}
+use Rattle.std.proofs.lemmas.List.Folds.{Any-from_list_any, list_any_at}
 use Rattle.schedule.specs.declared.Arc.{Arc}
 use Rattle.schedule.specs.Graph.{Ancestor, Forward, Graph, by_arc, through}
-use Rattle.schedule.proofs.FirstPlace.{place, place_first, place_passes}
 
 pub ancestor_below : (g : Graph) → Forward g → {u v : ℕ} → Ancestor g u v → u < v
 ancestor_below g fw (by_arc a h p q) = omega (arith, (fw a h).0)
 ancestor_below g fw (through a h r q) = omega (arith, (fw a h).0, ancestor_below g fw r)
 
 -- one arc in front
-pub ancestor_before : (g : Graph) (a : Arc) → ContainsAt g.arcs a → {w v : ℕ} → a.second ≡ w → Ancestor g w v → Ancestor g a.first v
+pub ancestor_before : (g : Graph) (a : Arc) → Contains g.arcs a → {w v : ℕ} → a.second ≡ w → Ancestor g w v → Ancestor g a.first v
 ancestor_before g a h e (by_arc b k p q) = through b k (by_arc a h refl (e ∙ sym p)) q
 ancestor_before g a h e (through b k r q) = through b k (ancestor_before g a h e r) q
 
@@ -22,35 +21,27 @@ leads before u v a = eqb a.second v && (eqb a.first u || before a.first)
 -- whether arcs lead from u to v, at most n of them
 pub leads_to : Graph → ℕ → ℕ → ℕ → Bool
 leads_to g u zero v = false
-leads_to g u (suc n) v = ltb (place (leads (leads_to g u n) u v) g.arcs) (length g.arcs)
-
-no_arc : Arc
-no_arc = record { first = 0; second = 0; delay = 0 }
+leads_to g u (suc n) v = list_any (leads (leads_to g u n) u v) g.arcs
 
 pub leads_sound : (g : Graph) (u n v : ℕ) → leads_to g u n v ≡ true → Ancestor g u v
 unfolding leads_to
 leads_sound g u zero v h = absurd (both_ways false refl h)
 leads_sound g u (suc n) v h =
-    let k : ℕ = place (leads (leads_to g u n) u v) g.arcs in
-    let l : k < length g.arcs = ltb-true k (length g.arcs) h in
-    go (leads_sound g u n) (get_or g.arcs k no_arc) (has_get_or g.arcs k no_arc l)
-    (place_passes (leads (leads_to g u n) u v) g.arcs no_arc l)
-  where
-    go : ((w : ℕ) → leads_to g u n w ≡ true → Ancestor g u w) → (a : Arc) → ContainsAt g.arcs a → leads (leads_to g u n) u v a ≡ true
-        → Ancestor g u v
-    go r a h t =
-        let p = and_parts (eqb a.second v) (eqb a.first u || leads_to g u n a.first) t in
-        elim (or_cases (eqb a.first u) (leads_to g u n a.first) p.1) [
-          | inl e ↦ by_arc a h (eqb-true a.first u e) (eqb-true a.second v p.0)
-          | inr e ↦ through a h (r a.first e) (eqb-true a.second v p.0)
-        ]
+    let s : Any (λ a. leads (leads_to g u n) u v a ≡ true) g.arcs = Any-from_list_any (leads (leads_to g u n) u v) g.arcs h in
+    let a : Arc = s.1 in
+    let i : Contains g.arcs a = (s.0, s.2, s.3) in
+    let p = and_parts (eqb a.second v) (eqb a.first u || leads_to g u n a.first) s.4 in
+    elim (or_cases (eqb a.first u) (leads_to g u n a.first) p.1) [
+      | inl e ↦ by_arc a i (eqb-true a.first u e) (eqb-true a.second v p.0)
+      | inr e ↦ through a i (leads_sound g u n a.first e) (eqb-true a.second v p.0)
+    ]
 
 -- an arc of the graph that leads passes the test
-leads_by : (g : Graph) (u n v : ℕ) (a : Arc) → ContainsAt g.arcs a → leads (leads_to g u n) u v a ≡ true → leads_to g u (suc n) v ≡ true
+leads_by : (g : Graph) (u n v : ℕ) (a : Arc) → Contains g.arcs a → leads (leads_to g u n) u v a ≡ true → leads_to g u (suc n) v ≡ true
 unfolding leads_to
 leads_by g u n v a h t =
     let q : Arc → Bool = leads (leads_to g u n) u v in
-    lt-ltb (place q g.arcs) (length g.arcs) (place_first q g.arcs h.0 a h.1 (ap q (h.2 a) ∙ t))
+    list_any_at q g.arcs h.0 a h.1 (ap q h.2 ∙ t)
 
 pub leads_complete : (g : Graph) → Forward g → (u n v : ℕ) → v < n → Ancestor g u v → leads_to g u n v ≡ true
 leads_complete g fw u zero v l r = absurd (omega arith)

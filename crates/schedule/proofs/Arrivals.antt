@@ -1,7 +1,7 @@
 -- The front of a set, and the task that growth adds, are what joined best arrivals say.
 use Rattle.std.proofs.Common.{◌≡◌, ℕ, ◌<◌, ◌≤◌, true, false, ◌&&◌, eqb, ltb, leb, ◌⊎◌, List, [], ◌∷◌, map, length, get_or, sym, refl, ap, ◌∙◌, subst, inl, inr, ⊎_elim, arith}
-use Rattle.std.specs.List.{ContainsAt, AllByRecursion}
-use Rattle.std.proofs.ByRecursion.{All-get_or, all-has, All-weaker}
+use Rattle.std.specs.List.{Contains}
+use Rattle.std.proofs.lemmas.List.Elements.{Contains-get_or}
 use Rattle.std.proofs.lemmas.Bool.{and_cases, and_from, and_parts, cases_Bool, cond_both, cond-false, cond-true, eq-eqb, eqb-false, eqb-true, le-leb, ltb-false, ltb-true, or_cases, or_parts}
 use Rattle.segment_tree.specs.BestArrivals.{best_arrivals, best_read, no_arrival, wins}
 use Rattle.segment_tree.specs.Tree.{total}
@@ -12,7 +12,7 @@ use Rattle.schedule.specs.Graph.{Forward, Graph, tasks}
 use Rattle.schedule.specs.Bounds.{Set, arrival, enters, front}
 use Rattle.schedule.specs.Growth.{next}
 use Rattle.schedule.proofs.Fronts.{Brought, front_high, front_low, next_found, next_low}
-use Rattle.schedule.proofs.Lists.{all_unmap, has_here, has_there, has_unmap}
+use Rattle.schedule.proofs.Lists.{each_more, has_here, has_map, has_there, has_unmap, read_at}
 
 -- t is not below x: its arrival is greater, or it is equal and its task is not higher
 abbrev Over : BestArrival → BestArrival → Type 0
@@ -24,8 +24,8 @@ over_over s t x p q =
 
 -- a total is the blank or one of the records, and not below any
 record Best (xs : List BestArrival) (t : BestArrival) : Type 0 where
-  one : (t ≡ no_arrival) ⊎ ContainsAt xs t
-  over : AllByRecursion (Over t) xs
+  one : (t ≡ no_arrival) ⊎ Contains xs t
+  over : (x : BestArrival) → Contains xs x → Over t x
 
 wins_over : (y x : BestArrival) → wins y x ≡ true → Over y x
 wins_over y x e =
@@ -52,16 +52,18 @@ over_self : (x : BestArrival) → Over x x
 over_self x = (omega arith, λ _. omega arith)
 
 total_best : (xs : List BestArrival) → Best xs (total best_arrivals xs)
-total_best [] = record { one = inl refl; over = tt }
+total_best [] = record { one = inl refl; over = λ x i. absurd (omega (arith, i.1)) }
 total_best (x ∷ xs) =
     let b = total_best xs in
     let y : BestArrival = total best_arrivals xs in
     cond_both (wins y x) y x (Best (x ∷ xs))
-    (λ e. record { one = ⊎_elim (λ n. inl n) (λ h. inr (has_there x y xs h)) b.one; over = (wins_over y x e, b.over) })
+    (λ e. record {
+      one = ⊎_elim (λ n. inl n) (λ h. inr (has_there x y xs h)) b.one;
+      over = each_more (Over y) x xs (wins_over y x e) b.over;
+    })
     (λ e. record {
       one = inr (has_here x xs);
-      over =
-          (over_self x, All-weaker (Over y) (Over x) (λ z o. over_over x y z (loses_under y x e) o) xs b.over);
+      over = each_more (Over x) x xs (over_self x) (λ z i. over_over x y z (loses_under y x e) (b.over z i));
     })
 
 module _ (g : Graph) (es : List ℕ) (S : Set) where
@@ -80,13 +82,13 @@ module _ (g : Graph) (es : List ℕ) (S : Set) where
   -- the arc that brings what is not blank
   record From (u : ℕ) (x : BestArrival) : Type 0 where
     arc : Arc
-    has : ContainsAt g.arcs arc
+    has : Contains g.arcs arc
     of : arc.first ≡ u
     into : enters S arc ≡ true
     arrives : x.arrival ≡ arrival g es arc
     named : x.task ≡ u
 
-  by_cases : (u : ℕ) → u ≤ 4_294_967_295 → (a : Arc) → ContainsAt g.arcs a
+  by_cases : (u : ℕ) → u ≤ 4_294_967_295 → (a : Arc) → Contains g.arcs a
       → (arrival_by g es S u a ≡ no_arrival) ⊎ From u (arrival_by g es S u a)
   by_cases u l a h =
       ⊎_elim
@@ -107,13 +109,12 @@ module _ (g : Graph) (es : List ℕ) (S : Set) where
       (total_best (map (arrival_by g es S u) g.arcs)).one
 
   -- and not below the arrival of an arc from u that enters
-  from_high : (a : Arc) → ContainsAt g.arcs a → enters S a ≡ true → a.first ≤ 4_294_967_295
+  from_high : (a : Arc) → Contains g.arcs a → enters S a ≡ true → a.first ≤ 4_294_967_295
       → arrival g es a ≤ (arrival_from g es S a.first).arrival
   from_high a h e l =
       let u : ℕ = a.first in
       let t : BestArrival = arrival_from g es S u in
-      let o = all-has (λ a. Over t (arrival_by g es S u a)) g.arcs a
-      (all_unmap (Over t) (arrival_by g es S u) g.arcs (total_best (map (arrival_by g es S u) g.arcs)).over) h in
+      let o = (total_best (map (arrival_by g es S u) g.arcs)).over (arrival_by g es S u a) (has_map (arrival_by g es S u) g.arcs a h) in
       omega (arith, o.0, (by_in u a l refl e).0)
 
   module _ (fw : Forward g) (leaves : List BestArrival) (room : tasks g ≤ length leaves) (few : length leaves ≤ 4_294_967_296)
@@ -124,7 +125,7 @@ module _ (g : Graph) (es : List ℕ) (S : Set) where
     -- the best of all is over the best from each task
     over_each : (u : ℕ) → u < length leaves → Over best (arrival_from g es S u)
     unfolding best
-    over_each u l = subst (Over best) (each u l) (All-get_or (Over best) leaves u no_arrival l (total_best leaves).over)
+    over_each u l = subst (Over best) (each u l) ((total_best leaves).over (get_or leaves u no_arrival) (Contains-get_or leaves u no_arrival l))
 
     -- it is blank, or the best from some task
     best_cases : (best ≡ no_arrival) ⊎ ((u : ℕ) × From u best)
@@ -132,14 +133,14 @@ module _ (g : Graph) (es : List ℕ) (S : Set) where
     best_cases =
         ⊎_elim
         (λ e. inl e)
-        (λ h. let e = sym (each h.0 h.1) ∙ h.2 no_arrival in
+        (λ h. let e = sym (each h.0 h.1) ∙ read_at leaves best no_arrival h in
         ⊎_elim
         (λ n. inl (sym e ∙ n))
         (λ f. inr (h.0, subst (From h.0) e f))
         (from_cases h.0 (omega (arith, h.1, few))))
         (total_best leaves).one
 
-    first_small : (a : Arc) → ContainsAt g.arcs a → a.first < length leaves
+    first_small : (a : Arc) → Contains g.arcs a → a.first < length leaves
     first_small a h = omega (arith, fw a h, room)
 
     is_front : best.arrival ≡ front g es S

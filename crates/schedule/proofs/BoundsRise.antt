@@ -1,6 +1,6 @@
 -- Along an arc the first task has ended, by its bound and duration, no later than the second's bound.
 use Rattle.std.proofs.Common.{◌≡◌, ℕ, ◌+◌, ◌≤◌, true, false, List, subst, subst₂, ⊎_elim, arith}
-use Rattle.std.specs.List.{ContainsAt}
+use Rattle.std.specs.List.{Contains}
 use Rattle.std.proofs.lemmas.Bool.{cases_Bool}
 use Rattle.schedule.specs.declared.Arc.{Arc}
 use Rattle.schedule.specs.Graph.{Ancestor, Forward, Graph, by_arc, duration, through}
@@ -13,7 +13,7 @@ use Rattle.schedule.proofs.Sets.{enters_from, with_out, with_self}
 module _ (g : Graph) (es : List ℕ) (fw : Forward g) (bs : Bounds g es) where
   -- Take the set that attains the second task's bound. The first task is in it, and ends within its run, or it is not, and the arc
   -- enters.
-  pub arc_bound : (a : Arc) → ContainsAt g.arcs a → bound es a.first + duration g a.first ≤ bound es a.second
+  pub arc_bound : (a : Arc) → Contains g.arcs a → bound es a.first + duration g a.first ≤ bound es a.second
   arc_bound a h = ⊎_elim inside outside (cases_Bool (K a.first))
     where
       L : Least g es a.second (bound es a.second)

@@ -1,7 +1,6 @@
 -- The cluster of a task: the task itself, and ancestors whose reach is the task's bound. The task runs last in it.
 use Rattle.std.proofs.Common.{◌≡◌, ℕ, zero, suc, ◌+◌, ◌<◌, ◌≤◌, true, false, ◌||◌, eqb, ◌⊎◌, List, [], ◌∷◌, ◌++◌, filter, sym, refl, ap, ◌∙◌, subst, inl, inr, ⊎_elim, arith}
-use Rattle.std.specs.List.{ContainsAt, AllByRecursion}
-use Rattle.std.proofs.ByRecursion.{all-has, All-weaker}
+use Rattle.std.specs.List.{AllPairs, Contains}
 use Rattle.std.proofs.lemmas.Bool.{cases_Bool, cases_eq, cond_both, cond-false, cond-true, eq-eqb, ltb-true, ne_eqb}
 use Rattle.schedule.specs.declared.Arc.{Arc}
 use Rattle.schedule.specs.Graph.{Ancestor, Forward, Graph, tasks}
@@ -14,7 +13,7 @@ use Rattle.schedule.proofs.Ancestry.{ancestor_below}
 use Rattle.schedule.proofs.BoundsRise.{ancestor_bound}
 use Rattle.schedule.proofs.Fronts.{front_high}
 use Rattle.schedule.proofs.GrowthTurns.{grown_ancestors, growth_ends, growth_least, least_attained, least_one, shut_most}
-use Rattle.schedule.proofs.Lists.{Pairs, all_from_has, has_cases}
+use Rattle.schedule.proofs.Lists.{each_more, has_here, has_there, pairs_first, pairs_rest}
 use Rattle.schedule.proofs.RunningOrder.{order_below, order_rises}
 use Rattle.schedule.proofs.Sets.{enters_from, with_cases, with_self}
 
@@ -77,42 +76,39 @@ module _ (g : Graph) (es : List ℕ) (fw : Forward g) (v : ℕ) where
   pub cluster_most : (u : ℕ) → cluster g es v u ≡ true → u ≤ v
   cluster_most u e = ⊎_elim (λ p. omega (arith, p)) (λ a. omega (arith, ancestor_below g fw a)) (cluster_cases u e)
 
-kept_none : (C : Set) (us : List ℕ) → AllByRecursion (λ u. C u ≡ false) us → filter C us ≡ []
+kept_none : (C : Set) (us : List ℕ) → ((u : ℕ) → Contains us u → C u ≡ false) → filter C us ≡ []
 kept_none C [] h = refl
-kept_none C (u ∷ us) h = cond-false (C u) (u ∷ filter C us) (filter C us) h.0 ∙ kept_none C us h.1
+kept_none C (u ∷ us) h =
+    cond-false (C u) (u ∷ filter C us) (filter C us) (h u (has_here u us)) ∙ kept_none C us (λ w i. h w (has_there u w us i))
 
 -- if C is K and v, and no task of K has a higher bound than v, then C runs K in order and then v
 kept_placed : (es : List ℕ) (C K : Set) (v : ℕ) (us : List ℕ) → C v ≡ true
-    → AllByRecursion (λ u. (C u ≡ K u) × (K u ≡ true → bound es u ≤ bound es v)) us → Pairs (Before es) us
+    → ((u : ℕ) → Contains us u → (C u ≡ K u) × (K u ≡ true → bound es u ≤ bound es v)) → AllPairs (Before es) us
     → filter C (placed es v us) ≡ filter K us ++ v ∷ []
 kept_placed es C K v [] c h s = cond-true (C v) (v ∷ []) [] c
 kept_placed es C K v (u ∷ us) c h s =
     cond_both (sooner es v u) (v ∷ u ∷ us) (u ∷ placed es v us) (λ l. filter C l ≡ filter K (u ∷ us) ++ v ∷ [])
     (λ e.
     cond-true (C v) (v ∷ filter C (u ∷ us)) (filter C (u ∷ us)) c
-    ∙ ap (λ l. v ∷ l) (kept_none C (u ∷ us) (all_from_has (λ x. C x ≡ false) (u ∷ us) (λ x i. (all-has Like (u ∷ us) x h i).0 ∙ late e x i)))
-    ∙ ap (λ l. l ++ v ∷ []) (sym (kept_none K (u ∷ us) (all_from_has (λ x. K x ≡ false) (u ∷ us) (late e)))))
+    ∙ ap (λ l. v ∷ l) (kept_none C (u ∷ us) (λ x i. (h x i).0 ∙ late e x i))
+    ∙ ap (λ l. l ++ v ∷ []) (sym (kept_none K (u ∷ us) (late e))))
     (λ e.
+    let rest = kept_placed es C K v us c (λ w i. h w (has_there u w us i)) (pairs_rest (Before es) u us s) in
     ⊎_elim
-    (λ k. cond-true (C u) (u ∷ filter C (placed es v us)) (filter C (placed es v us)) (h.0.0 ∙ k)
-    ∙ ap (λ l. u ∷ l) (kept_placed es C K v us c h.1 s.1) ∙ ap (λ l. l ++ v ∷ [])
+    (λ k. cond-true (C u) (u ∷ filter C (placed es v us)) (filter C (placed es v us)) ((h u (has_here u us)).0 ∙ k)
+    ∙ ap (λ l. u ∷ l) rest ∙ ap (λ l. l ++ v ∷ [])
     (sym (cond-true (K u) (u ∷ filter K us) (filter K us) k)))
-    (λ k. cond-false (C u) (u ∷ filter C (placed es v us)) (filter C (placed es v us)) (h.0.0 ∙ k)
-    ∙ kept_placed es C K v us c h.1 s.1 ∙ ap (λ l. l ++ v ∷ []) (sym (cond-false (K u) (u ∷ filter K us) (filter K us) k)))
+    (λ k. cond-false (C u) (u ∷ filter C (placed es v us)) (filter C (placed es v us)) ((h u (has_here u us)).0 ∙ k)
+    ∙ rest ∙ ap (λ l. l ++ v ∷ []) (sym (cond-false (K u) (u ∷ filter K us) (filter K us) k)))
     (cases_Bool (K u)))
   where
-    Like : ℕ → Type 0
-    Like x = (C x ≡ K x) × (K x ≡ true → bound es x ≤ bound es v)
+    later : sooner es v u ≡ true → (x : ℕ) → Contains (u ∷ us) x → bound es v < bound es x
+    later e =
+        let k = ltb-true (bound es v) (bound es u) e in
+        each_more (λ x. bound es v < bound es x) u us k (λ x j. omega (arith, k, pairs_first (Before es) u us s x j))
 
-    later : sooner es v u ≡ true → (x : ℕ) → ContainsAt (u ∷ us) x → bound es v < bound es x
-    later e x i =
-        ⊎_elim
-        (λ p. subst (λ y. bound es v < bound es y) p (ltb-true (bound es v) (bound es u) e))
-        (λ j. omega (arith, ltb-true (bound es v) (bound es u) e, all-has (Before es u) us x s.0 j))
-        (has_cases u x us i)
-
-    late : sooner es v u ≡ true → (x : ℕ) → ContainsAt (u ∷ us) x → K x ≡ false
-    late e x i = ⊎_elim (λ k. absurd (omega (arith, later e x i, (all-has Like (u ∷ us) x h i).1 k))) (λ k. k) (cases_Bool (K x))
+    late : sooner es v u ≡ true → (x : ℕ) → Contains (u ∷ us) x → K x ≡ false
+    late e x i = ⊎_elim (λ k. absurd (omega (arith, later e x i, (h x i).1 k))) (λ k. k) (cases_Bool (K x))
 
 module _ (g : Graph) (es : List ℕ) (fw : Forward g) (bs : Bounds g es) (v : ℕ) (small : v < tasks g) where
   -- the turn whose set is the cluster
@@ -147,7 +143,7 @@ module _ (g : Graph) (es : List ℕ) (fw : Forward g) (bs : Bounds g es) (v : �
   pub run_fits : run g es v (others g es v) ≤ bound es v
   run_fits = omega (arith, others_reach)
 
-  pub arrival_fits : (a : Arc) → ContainsAt g.arcs a → cluster g es v a.second ≡ true → cluster g es v a.first ≡ false
+  pub arrival_fits : (a : Arc) → Contains g.arcs a → cluster g es v a.second ≡ true → cluster g es v a.first ≡ false
       → arrival g es a ≤ bound es v
   arrival_fits a h e f = omega (arith, others_reach, front_high g es (cluster g es v) a h (enters_from (cluster g es v) a e f))
 
@@ -155,8 +151,7 @@ module _ (g : Graph) (es : List ℕ) (fw : Forward g) (bs : Bounds g es) (v : �
   pub members_are : members g es v ≡ filter (others g es v) (order es v) ++ v ∷ []
   members_are =
       kept_placed es (cluster g es v) (others g es v) v (order es v) (with_self (others g es v) v)
-      (All-weaker (λ u. u < v) (λ u. (cluster g es v u ≡ others g es v u) × (others g es v u ≡ true → bound es u ≤ bound es v)) each
-      (order es v) (order_below es v))
+      (λ u i. each u (order_below es v u i))
       (order_rises es v)
     where
       each : (u : ℕ) → u < v → (cluster g es v u ≡ others g es v u) × (others g es v u ≡ true → bound es u ≤ bound es v)

@@ -1,40 +1,40 @@
 -- The front of a set is the greatest arrival of an arc that enters it, and the next task to be added is the lowest that has it.
 use Rattle.std.proofs.Common.{◌≡◌, ℕ, ◌<◌, ◌≤◌, min, max, Bool, true, cond, ◌&&◌, eqb, List, [], ◌∷◌, ⊎_elim, arith}
-use Rattle.std.specs.List.{ContainsAt, AllByRecursion}
-use Rattle.std.proofs.ByRecursion.{all-has}
+use Rattle.std.specs.List.{Contains}
 use Rattle.std.proofs.lemmas.Bool.{and_from, and_parts, cases_Bool, cases_lt, cond_both, cond-false, cond-true, eq-eqb, eqb-true}
 use Rattle.schedule.specs.declared.Arc.{Arc}
 use Rattle.schedule.specs.Graph.{Forward, Graph, tasks}
 use Rattle.schedule.specs.Bounds.{Set, arrival, enters, front, latest}
 use Rattle.schedule.specs.Growth.{lowest, next}
-use Rattle.schedule.proofs.Lists.{all_from_has, has_here, has_there}
+use Rattle.schedule.proofs.Lists.{each_more, has_here, has_there}
 
 module _ (g : Graph) (es : List ℕ) where
-  latest_all : (K : Set) (m : ℕ) (arcs : List Arc) → latest g es K arcs ≤ m → AllByRecursion (λ a. enters K a ≡ true → arrival g es a ≤ m) arcs
-  latest_all K m [] h = tt
-  latest_all K m (a ∷ rest) h = (
-    (λ e. omega (arith, h, cond-true (enters K a) (arrival g es a) 0 e)),
-    latest_all K m rest (omega (arith, h)),
-  )
+  latest_high : (K : Set) (m : ℕ) (arcs : List Arc) → latest g es K arcs ≤ m
+      → (a : Arc) → Contains arcs a → enters K a ≡ true → arrival g es a ≤ m
+  latest_high K m [] h = λ a i e. absurd (omega (arith, i.1))
+  latest_high K m (b ∷ rest) h =
+      each_more (λ a. enters K a ≡ true → arrival g es a ≤ m) b rest
+      (λ e. omega (arith, h, cond-true (enters K b) (arrival g es b) 0 e))
+      (latest_high K m rest (omega (arith, h)))
 
-  latest_most : (K : Set) (m : ℕ) (arcs : List Arc) → AllByRecursion (λ a. enters K a ≡ true → arrival g es a ≤ m) arcs → latest g es K arcs ≤ m
-  latest_most K m [] h = omega arith
-  latest_most K m (a ∷ rest) h =
-      let here = cond_both (enters K a) (arrival g es a) 0 (λ x. x ≤ m) h.0 (λ _. omega arith) in
-      omega (arith, here, latest_most K m rest h.1)
+  latest_low : (K : Set) (m : ℕ) (arcs : List Arc) → ((a : Arc) → Contains arcs a → enters K a ≡ true → arrival g es a ≤ m)
+      → latest g es K arcs ≤ m
+  latest_low K m [] f = omega arith
+  latest_low K m (a ∷ rest) f =
+      let here = cond_both (enters K a) (arrival g es a) 0 (λ x. x ≤ m) (f a (has_here a rest)) (λ _. omega arith) in
+      omega (arith, here, latest_low K m rest (λ b i. f b (has_there a b rest i)))
 
   -- an arrival is at most the front
-  pub front_high : (K : Set) (a : Arc) → ContainsAt g.arcs a → enters K a ≡ true → arrival g es a ≤ front g es K
-  front_high K a i e =
-      all-has (λ a. enters K a ≡ true → arrival g es a ≤ front g es K) g.arcs a (latest_all K (front g es K) g.arcs (omega arith)) i e
+  pub front_high : (K : Set) (a : Arc) → Contains g.arcs a → enters K a ≡ true → arrival g es a ≤ front g es K
+  front_high K = latest_high K (front g es K) g.arcs (omega arith)
 
   -- the front is at most whatever all arrivals are
-  pub front_low : (K : Set) (m : ℕ) → ((a : Arc) → ContainsAt g.arcs a → enters K a ≡ true → arrival g es a ≤ m) → front g es K ≤ m
-  front_low K m f = latest_most K m g.arcs (all_from_has (λ a. enters K a ≡ true → arrival g es a ≤ m) g.arcs f)
+  pub front_low : (K : Set) (m : ℕ) → ((a : Arc) → Contains g.arcs a → enters K a ≡ true → arrival g es a ≤ m) → front g es K ≤ m
+  front_low K m f = latest_low K m g.arcs f
 
   -- an arc that enters K and arrives at f
   abbrev Arrives : Set → ℕ → List Arc → Arc → Type 0
-  Arrives K f arcs a = ContainsAt arcs a × (enters K a ≡ true) × (arrival g es a ≡ f)
+  Arrives K f arcs a = Contains arcs a × (enters K a ≡ true) × (arrival g es a ≡ f)
 
   arrives_there : (K : Set) (f : ℕ) (b : Arc) (arcs : List Arc) (a : Arc) → Arrives K f arcs a → Arrives K f (b ∷ arcs) a
   arrives_there K f b arcs a h = (has_there b a arcs h.0, h.1, h.2)
@@ -58,14 +58,14 @@ module _ (g : Graph) (es : List ℕ) where
   abbrev fits : Set → ℕ → Arc → Bool
   fits S f a = enters S a && eqb (arrival g es a) f
 
-  lowest_all : (S : Set) (f m : ℕ) (arcs : List Arc) → m ≤ lowest g es S f arcs
-      → AllByRecursion (λ a. enters S a ≡ true → arrival g es a ≡ f → m ≤ a.first) arcs
-  lowest_all S f m [] h = tt
-  lowest_all S f m (a ∷ rest) h = (
-    (λ e p. let c = and_from (enters S a) (eqb (arrival g es a) f) e (eq-eqb (arrival g es a) f p) in
-        omega (arith, h, cond-true (fits S f a) (min a.first (lowest g es S f rest)) (lowest g es S f rest) c)),
-    lowest_all S f m rest (omega (arith, h, less)),
-  )
+  lowest_low : (S : Set) (f m : ℕ) (arcs : List Arc) → m ≤ lowest g es S f arcs
+      → (a : Arc) → Contains arcs a → enters S a ≡ true → arrival g es a ≡ f → m ≤ a.first
+  lowest_low S f m [] h = λ a i e p. absurd (omega (arith, i.1))
+  lowest_low S f m (a ∷ rest) h =
+      each_more (λ b. enters S b ≡ true → arrival g es b ≡ f → m ≤ b.first) a rest
+      (λ e p. let c = and_from (enters S a) (eqb (arrival g es a) f) e (eq-eqb (arrival g es a) f p) in
+      omega (arith, h, cond-true (fits S f a) (min a.first (lowest g es S f rest)) (lowest g es S f rest) c))
+      (lowest_low S f m rest (omega (arith, h, less)))
     where
       less : lowest g es S f (a ∷ rest) ≤ lowest g es S f rest
       less =
@@ -94,15 +94,13 @@ module _ (g : Graph) (es : List ℕ) where
       there p l = (l.0, arrives_there S f a rest l.0 l.1, omega (arith, p, l.2))
 
   -- no arc whose arrival is the front comes from a task below the next one
-  pub next_low : (S : Set) (a : Arc) → ContainsAt g.arcs a → enters S a ≡ true → arrival g es a ≡ front g es S → next g es S ≤ a.first
-  next_low S a h =
-      all-has (λ a. enters S a ≡ true → arrival g es a ≡ front g es S → next g es S ≤ a.first) g.arcs a
-      (lowest_all S (front g es S) (next g es S) g.arcs (omega arith)) h
+  pub next_low : (S : Set) (a : Arc) → Contains g.arcs a → enters S a ≡ true → arrival g es a ≡ front g es S → next g es S ≤ a.first
+  next_low S = lowest_low S (front g es S) (next g es S) g.arcs (omega arith)
 
   -- what growth adds to a set: the first task of an arc that enters it and whose arrival is its front
   pub record Brought (S : Set) : Type 0 where
     pub arc : Arc
-    pub has : ContainsAt g.arcs arc
+    pub has : Contains g.arcs arc
     pub into : enters S arc ≡ true
     pub arrives : arrival g es arc ≡ front g es S
     pub is : arc.first ≡ next g es S

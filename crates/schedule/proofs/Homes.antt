@@ -2,8 +2,7 @@
 -- run by the bounds alone.
 use Rattle.std.proofs.Common.{◌≡◌, ℕ, zero, suc, ◌+◌, ◌*◌, ◌<◌, ◌≤◌, max, true, false, List, [], ◌∷◌, ◌++◌, length, get_or, filter, sym, refl, ap, ◌∙◌, subst, ⊎_elim, mul-le-mul_left, arith}
 use native.Mathlib.Nat.{le-max_left, le-max_right}
-use Rattle.std.specs.List.{ContainsAt, AllByRecursion}
-use Rattle.std.proofs.ByRecursion.{All-weaker}
+use Rattle.std.specs.List.{Contains}
 use Rattle.std.proofs.lemmas.List.{get_or_append_left, get_or_push, length_push}
 use Rattle.std.proofs.lemmas.Bool.{cases_eq, cond_both, cond-false}
 use Rattle.schedule.specs.declared.Arc.{Arc}
@@ -15,7 +14,7 @@ use Rattle.schedule.specs.Theorems.{Grain}
 use Rattle.schedule.proofs.BoundsRise.{arc_bound}
 use Rattle.schedule.proofs.Clusters.{arrival_fits, members_are, others, run_fits}
 use Rattle.schedule.proofs.Inputs.{inputs_fit}
-use Rattle.schedule.proofs.Lists.{all_from_has}
+use Rattle.schedule.proofs.Lists.{has_here, has_there}
 use Rattle.schedule.proofs.Multiples.{mul-max}
 use Rattle.schedule.proofs.RunningOrder.{order_below}
 use Rattle.schedule.proofs.Runs.{after_in}
@@ -61,16 +60,19 @@ finish-append g C hs t (x ∷ xs) ys = finish-append g C hs (starts g C hs t x +
 
 -- a cluster's processor lags behind the run by the bounds by no more than s
 compare : (g : Graph) (es : List ℕ) (C K : Set) (hs : List ℕ) (c s : ℕ) (us : List ℕ)
-    → AllByRecursion (λ u. K u ≡ true → c * inputs C hs u g.arcs ≤ c * bound es u + s) us
+    → ((u : ℕ) → Contains us u → K u ≡ true → c * inputs C hs u g.arcs ≤ c * bound es u + s)
     → (t u : ℕ) → c * t ≤ c * u + s → c * finish g C hs t (filter K us) ≤ c * run_from g es K u us + s
 compare g es C K hs c s [] h t u l = l
 compare g es C K hs c s (w ∷ ws) h t u l =
     cond_both (K w) (w ∷ filter K ws) (filter K ws) (λ x. c * finish g C hs t x ≤ c * run_from g es K (after g es K u w) ws + s)
-    (λ e. compare g es C K hs c s ws h.1 (starts g C hs t w + duration g w) (after g es K u w)
+    (λ e. compare g es C K hs c s ws rest (starts g C hs t w + duration g w) (after g es K u w)
     (subst (λ x. c * (starts g C hs t w + duration g w) ≤ c * x + s) (sym (after_in g es K u w e))
-    (step c s t u (inputs C hs w g.arcs) (bound es w) (duration g w) l (h.0 e))))
-    (λ e. compare g es C K hs c s ws h.1 t (after g es K u w)
+    (step c s t u (inputs C hs w g.arcs) (bound es w) (duration g w) l (h w (has_here w ws) e))))
+    (λ e. compare g es C K hs c s ws rest t (after g es K u w)
     (subst (λ x. c * t ≤ c * x + s) (sym (cond-false (K w) (max u (bound es w) + duration g w) u e)) l))
+  where
+    rest : (z : ℕ) → Contains ws z → K z ≡ true → c * inputs C hs z g.arcs ≤ c * bound es z + s
+    rest z i = h z (has_there w z ws i)
 
 home_is : (g : Graph) (es : List ℕ) → Forward g → Bounds g es → (v : ℕ) → v < tasks g
     → home_end g es v ≡ max (finish g (cluster g es v) (homes g es v) 0 (filter (others g es v) (order es v)))
@@ -100,7 +102,7 @@ module _ (g : Graph) (es : List ℕ) (fw : Forward g) (bs : Bounds g es) (p q : 
           → (p + q) * (x + duration g v) ≤ (p + 2 * q) * bound es v + (p + q) * duration g v
       sum x h = omega arith
 
-      arc_fits : (w : ℕ) → cluster g es v w ≡ true → w ≤ v → (a : Arc) → ContainsAt g.arcs a → a.second ≡ w → cluster g es v a.first ≡ false
+      arc_fits : (w : ℕ) → cluster g es v w ≡ true → w ≤ v → (a : Arc) → Contains g.arcs a → a.second ≡ w → cluster g es v a.first ≡ false
           → (p + q) * (get_or (homes g es v) a.first 0 + a.delay) ≤ (p + q) * bound es w + q * bound es v
       arc_fits w c l a h e f =
           let low : a.first < v = omega (arith, fw a h, e, l) in
@@ -114,16 +116,12 @@ module _ (g : Graph) (es : List ℕ) (fw : Forward g) (bs : Bounds g es) (p q : 
       fit : (w : ℕ) → cluster g es v w ≡ true → w ≤ v
           → (p + q) * inputs (cluster g es v) (homes g es v) w g.arcs ≤ (p + q) * bound es w + q * bound es v
       fit w c l =
-          inputs_fit (cluster g es v) (homes g es v) w (p + q) ((p + q) * bound es w + q * bound es v) g.arcs
-          (all_from_has (λ a. a.second ≡ w → cluster g es v a.first ≡ false → (p + q) * (get_or (homes g es v) a.first 0 + a.delay) ≤
-          (p + q) * bound es w + q * bound es v) g.arcs (arc_fits w c l))
+          inputs_fit (cluster g es v) (homes g es v) w (p + q) ((p + q) * bound es w + q * bound es v) g.arcs (arc_fits w c l)
 
       lag : (p + q) * F ≤ (p + q) * run g es v (others g es v) + q * bound es v
       lag =
           compare g es (cluster g es v) (others g es v) (homes g es v) (p + q) (q * bound es v) (order es v)
-          (All-weaker (λ u. u < v) (λ u. others g es v u ≡ true → (p + q) * inputs (cluster g es v) (homes g es v) u g.arcs ≤
-          (p + q) * bound es u + q * bound es v) (λ u l k. fit u (with_old (others g es v) v u k) (omega (arith, l))) (order es v)
-          (order_below es v))
+          (λ u i k. fit u (with_old (others g es v) v u k) (omega (arith, order_below es v u i)))
           0 0 (omega arith)
 
   homes_timely : (n : ℕ) → n ≤ tasks g → (u : ℕ) → u < n → Timely u

@@ -1,10 +1,11 @@
 -- When the inputs that a cluster gets from outside have come: the last one by a tick if each one has.
 use Rattle.std.proofs.Common.{◌≡◌, ℕ, ◌+◌, ◌*◌, ◌≤◌, false, not, ◌&&◌, eqb, List, [], ◌∷◌, get_or, arith}
-use Rattle.std.specs.List.{AllByRecursion}
+use Rattle.std.specs.List.{Contains}
 use Rattle.std.proofs.lemmas.Bool.{and_from, and_parts, cond_both, cond-true, eq-eqb, eqb-true, not_from_false, not-true}
 use Rattle.schedule.specs.declared.Arc.{Arc}
 use Rattle.schedule.specs.Bounds.{Set}
 use Rattle.schedule.specs.Plan.{input, inputs}
+use Rattle.schedule.proofs.Lists.{each_more, has_here, has_there}
 use Rattle.schedule.proofs.Multiples.{mul-max}
 
 module _ (C : Set) (hs : List ℕ) (w : ℕ) where
@@ -25,12 +26,18 @@ module _ (C : Set) (hs : List ℕ) (w : ℕ) where
 
   -- all inputs have come, c times over, by m if each has
   pub inputs_fit : (c m : ℕ) (arcs : List Arc)
-      → AllByRecursion (λ a. a.second ≡ w → C a.first ≡ false → c * (get_or hs a.first 0 + a.delay) ≤ m) arcs → c * inputs C hs w arcs ≤ m
-  inputs_fit c m [] h = omega arith
-  inputs_fit c m (a ∷ rest) h = mul-max c (input C hs w a) (inputs C hs w rest) m (input_fits c m a h.0) (inputs_fit c m rest h.1)
+      → ((a : Arc) → Contains arcs a → a.second ≡ w → C a.first ≡ false → c * (get_or hs a.first 0 + a.delay) ≤ m)
+      → c * inputs C hs w arcs ≤ m
+  inputs_fit c m [] f = omega arith
+  inputs_fit c m (a ∷ rest) f =
+      mul-max c (input C hs w a) (inputs C hs w rest) m (input_fits c m a (f a (has_here a rest)))
+      (inputs_fit c m rest (λ b i. f b (has_there a b rest i)))
 
   -- and each has when all have
   pub inputs_all : (m : ℕ) (arcs : List Arc) → inputs C hs w arcs ≤ m
-      → AllByRecursion (λ a. a.second ≡ w → C a.first ≡ false → get_or hs a.first 0 + a.delay ≤ m) arcs
-  inputs_all m [] h = tt
-  inputs_all m (a ∷ rest) h = ((λ e f. omega (arith, h, input_in a e f)), inputs_all m rest (omega (arith, h)))
+      → (a : Arc) → Contains arcs a → a.second ≡ w → C a.first ≡ false → get_or hs a.first 0 + a.delay ≤ m
+  inputs_all m [] h = λ a i e f. absurd (omega (arith, i.1))
+  inputs_all m (a ∷ rest) h =
+      each_more (λ b. b.second ≡ w → C b.first ≡ false → get_or hs b.first 0 + b.delay ≤ m) a rest
+      (λ e f. omega (arith, h, input_in a e f))
+      (inputs_all m rest (omega (arith, h)))

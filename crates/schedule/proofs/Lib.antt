@@ -3,7 +3,6 @@ pub mod Arrivals
 pub mod BoundsExist
 pub mod BoundsRise
 pub mod Clusters
-pub mod FirstPlace
 pub mod Fronts
 pub mod GrowthTurns
 pub mod Homes

@@ -1,59 +1,72 @@
 -- The makespan is the least tick by which each end task has a row that has ended.
 use Rattle.std.proofs.Common.{◌≡◌, ℕ, zero, suc, ◌*◌, ◌<◌, ◌≤◌, min, true, cond, eqb, List, [], ◌∷◌, Some, None, Option, sym, refl, ap, ◌∙◌, subst, ⊎_elim, arith}
-use Rattle.std.specs.List.{ContainsAt, AllByRecursion}
-use Rattle.std.proofs.ByRecursion.{all-has, All-weaker, has_get_or}
+use Rattle.std.specs.List.{Contains}
+use Rattle.std.proofs.lemmas.List.Elements.{Contains-get_or}
 use Rattle.std.proofs.lemmas.Bool.{cases_eq, cases_lt, cond_both, cond-true, eqb-false, eqb-true}
 use Rattle.schedule.specs.declared.Row.{Row}
 use Rattle.schedule.specs.Graph.{Graph, is_end, tasks}
 use Rattle.schedule.specs.Schedule.{at, earlier, earliest, end, makespan, no_row, or_zero, span}
 use Rattle.schedule.specs.Laws.{EndedBy, MakespanIsLeast}
-use Rattle.schedule.proofs.Lists.{has_here, has_there}
+use Rattle.schedule.proofs.Lists.{each_more, has_here, has_there, read_at}
 use Rattle.schedule.proofs.Multiples.{mul-max}
 
 module _ (g : Graph) (t : ℕ) where
-  -- an answer is the earliest end among the rows of t: there is none, or a row has it and no row of t ends sooner
+  -- n is the earliest end among the rows of t: a row has it, and no row of t ends sooner
+  pub record First (rows : List Row) (n : ℕ) : Type 0 where
+    pub row : Row
+    pub has : Contains rows row
+    pub of : row.task ≡ t
+    pub ends : end g row ≡ n
+    pub none_sooner : (r : Row) → Contains rows r → r.task ≡ t → n ≤ end g r
+
+  -- an answer is the earliest end, or there is no row of t
   abbrev Earliest : List Row → Option ℕ → Type 0
-  Earliest rows None = AllByRecursion (λ r. r.task ≡ t → ⊥) rows
-  Earliest rows (Some n) = ((r : Row) × ContainsAt rows r × (r.task ≡ t) × (end g r ≡ n)) × AllByRecursion (λ r. r.task ≡ t → n ≤ end g r) rows
+  Earliest rows None = (r : Row) → Contains rows r → r.task ≡ t → ⊥
+  Earliest rows (Some n) = First rows n
 
   earliest_more : (s : Row) (rows : List Row) → s.task ≡ t → (o : Option ℕ) → Earliest rows o → Earliest (s ∷ rows) (earlier (end g s) o)
-  earliest_more s rows e None h = (
-    (s, has_here s rows, e, refl),
-    ((λ _. omega arith), All-weaker (λ r. r.task ≡ t → ⊥) (λ r. r.task ≡ t → end g s ≤ end g r) (λ r n p. absurd (n p)) rows h),
-  )
-  earliest_more s rows e (Some n) h = (
-    ⊎_elim
-        (λ l. (h.0.0, has_there s h.0.0 rows h.0.1, h.0.2, omega (arith, l, h.0.3)))
-        (λ l. (s, has_here s rows, e, omega (arith, l)))
-        (cases_lt n (end g s)),
-    (
-      (λ _. omega arith),
-      All-weaker (λ r. r.task ≡ t → n ≤ end g r) (λ r. r.task ≡ t → min (end g s) n ≤ end g r)
-          (λ r f p. omega (arith, f p)) rows h.1,
-    ),
-  )
+  earliest_more s rows e None h = record {
+    row = s;
+    has = has_here s rows;
+    of = e;
+    ends = refl;
+    none_sooner = each_more (λ r. r.task ≡ t → end g s ≤ end g r) s rows (λ _. omega arith) (λ r i p. absurd (h r i p));
+  }
+  earliest_more s rows e (Some n) h =
+      ⊎_elim
+      (λ l. record { row = h.row; has = has_there s h.row rows h.has; of = h.of; ends = omega (arith, l, h.ends); none_sooner = sooner })
+      (λ l. record { row = s; has = has_here s rows; of = e; ends = omega (arith, l); none_sooner = sooner })
+      (cases_lt n (end g s))
+    where
+      sooner : (r : Row) → Contains (s ∷ rows) r → r.task ≡ t → min (end g s) n ≤ end g r
+      sooner =
+          each_more (λ r. r.task ≡ t → min (end g s) n ≤ end g r) s rows (λ _. omega arith)
+          (λ r i p. omega (arith, h.none_sooner r i p))
 
   earliest_pass : (s : Row) (rows : List Row) → (s.task ≡ t → ⊥) → (o : Option ℕ) → Earliest rows o → Earliest (s ∷ rows) o
-  earliest_pass s rows ne None h = (ne, h)
-  earliest_pass s rows ne (Some n) h = ((h.0.0, has_there s h.0.0 rows h.0.1, h.0.2, h.0.3), ((λ p. absurd (ne p)), h.1))
+  earliest_pass s rows ne None h = each_more (λ r. r.task ≡ t → ⊥) s rows ne h
+  earliest_pass s rows ne (Some n) h = record {
+    row = h.row;
+    has = has_there s h.row rows h.has;
+    of = h.of;
+    ends = h.ends;
+    none_sooner = each_more (λ r. r.task ≡ t → n ≤ end g r) s rows (λ p. absurd (ne p)) h.none_sooner;
+  }
 
   earliest_is : (rows : List Row) → Earliest rows (earliest g t rows)
-  earliest_is [] = tt
+  earliest_is [] = λ r i e. omega (arith, i.1)
   earliest_is (s ∷ rows) =
       cond_both (eqb s.task t) (earlier (end g s) (earliest g t rows)) (earliest g t rows) (Earliest (s ∷ rows))
       (λ e. earliest_more s rows (eqb-true s.task t e) (earliest g t rows) (earliest_is rows))
       (λ e. earliest_pass s rows (eqb-false s.task t e) (earliest g t rows) (earliest_is rows))
 
   -- a task that has a row ends first by some row, and by no row sooner
-  abbrev First : List Row → ℕ → Type 0
-  First rows n = ((r : Row) × ContainsAt rows r × (r.task ≡ t) × (end g r ≡ n)) × ((r : Row) → ContainsAt rows r → r.task ≡ t → n ≤ end g r)
-
-  pub first_end : (rows : List Row) (r : Row) → ContainsAt rows r → r.task ≡ t → First rows (or_zero (earliest g t rows))
+  pub first_end : (rows : List Row) (r : Row) → Contains rows r → r.task ≡ t → First rows (or_zero (earliest g t rows))
   first_end rows r i e = go (earliest g t rows) (earliest_is rows)
     where
       go : (o : Option ℕ) → Earliest rows o → First rows (or_zero o)
-      go None h = absurd (all-has (λ r. r.task ≡ t → ⊥) rows r h i e)
-      go (Some n) h = (h.0, λ s j. all-has (λ r. r.task ≡ t → n ≤ end g r) rows s h.1 j)
+      go None h = absurd (h r i e)
+      go (Some n) h = h
 
 module _ (g : Graph) (rows : List Row) where
   -- no end task ends first after the span
@@ -79,21 +92,20 @@ makespan_is_least_lem g rows valid m = (down, up)
     first : (t : ℕ) → t < tasks g → First g t rows (or_zero (earliest g t rows))
     first t l =
         let c = valid.complete t l in
-        first_end g t rows (at rows c.0) (has_get_or rows c.0 no_row c.1) c.2
+        first_end g t rows (at rows c.0) (Contains-get_or rows c.0 no_row c.1) c.2
 
     down : makespan g rows ≤ m → EndedBy g rows m
     down h t l e =
-        let f = (first t l).0 in
-        let i = f.1 in (
-          i.0,
-          i.1,
-          ap (λ r. r.task) (i.2 no_row) ∙ f.2,
-          subst (λ r. end g r ≤ m) (sym (i.2 no_row))
-              (omega (arith, h, f.3, span_high g rows (tasks g) t l e)),
+        let f = first t l in
+        let r : at rows f.has.0 ≡ f.row = read_at rows f.row no_row f.has in (
+          f.has.0,
+          f.has.1,
+          ap (λ r. r.task) r ∙ f.of,
+          subst (λ r. end g r ≤ m) (sym r) (omega (arith, h, f.ends, span_high g rows (tasks g) t l e)),
         )
 
     up : EndedBy g rows m → makespan g rows ≤ m
     up f =
         let s = span_low g rows 1 m (tasks g)
-        (λ t l e. let r = f t l e in omega (arith, r.3, (first t l).1 (at rows r.0) (has_get_or rows r.0 no_row r.1) r.2)) in
+        (λ t l e. let r = f t l e in omega (arith, r.3, (first t l).none_sooner (at rows r.0) (Contains-get_or rows r.0 no_row r.1) r.2)) in
         omega (arith, s)

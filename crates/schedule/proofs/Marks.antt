@@ -1,9 +1,9 @@
 -- Which clusters run: those of the end tasks, and of every task that feeds a cluster that runs.
 use Rattle.std.proofs.Common.{◌≡◌, ℕ, zero, suc, ◌+◌, ◌-◌, ◌<◌, ◌≤◌, Bool, true, false, cond, not, ◌&&◌, eqb, ◌⊎◌, List, [], ◌∷◌, length, get_or, sym, refl, subst, inl, inr, ⊎_elim, arith}
-use Rattle.std.specs.List.{ContainsAt, AllByRecursion}
-use Rattle.std.proofs.ByRecursion.{all-has, has_append_left, has_append_right, has_get_or}
+use Rattle.std.specs.List.{AllPairs, Contains}
+use Rattle.std.proofs.lemmas.List.Elements.{Contains-append_cases, Contains-append_left, Contains-append_right, Contains-get_or}
 use Rattle.std.proofs.lemmas.List.{length-append}
-use Rattle.std.proofs.lemmas.Bool.{and_cases, and_from, and_parts, both_ways, cases_Bool, cases_eq, cond_both, cond-true, eq-eqb, eqb-false, eqb-true, not-false, not_from_false, not-true, or_cases, or_left, or_parts, or_right}
+use Rattle.std.proofs.lemmas.Bool.{and_cases, and_from, and_parts, both_ways, cases_Bool, cases_eq, cond_both, cond-true, eq-eqb, eqb-false, eqb-true, not-false, not_from_false, not-true, or_cases, or_left, or_right}
 use Rattle.schedule.specs.declared.Arc.{Arc}
 use Rattle.schedule.specs.Graph.{Forward, Graph, is_end, none_from, tasks}
 use Rattle.schedule.specs.Bounds.{Set}
@@ -11,10 +11,10 @@ use Rattle.schedule.specs.Growth.{cluster}
 use Rattle.schedule.specs.Laws.{EndsHaveNoArcOut, Feeds, MarksAreNeeded}
 use Rattle.schedule.specs.Plan.{feeds, feeds_any, is_marked, marked, marks}
 use Rattle.schedule.proofs.Clusters.{cluster_most}
-use Rattle.schedule.proofs.Lists.{Pairs, has_append_cases, has_cases, has_here, has_none, has_there, pairs-append, pairs-get_or}
+use Rattle.schedule.proofs.Lists.{each_more, has_cases, has_here, has_there, pairs-append, pairs_short}
 
 -- a task with an outgoing arc
-pub arc_from : (t : ℕ) (arcs : List Arc) → none_from t arcs ≡ false → (a : Arc) × ContainsAt arcs a × (a.first ≡ t)
+pub arc_from : (t : ℕ) (arcs : List Arc) → none_from t arcs ≡ false → (a : Arc) × Contains arcs a × (a.first ≡ t)
 arc_from t [] e = absurd (both_ways true e refl)
 arc_from t (a ∷ rest) e =
     ⊎_elim
@@ -22,37 +22,21 @@ arc_from t (a ∷ rest) e =
     (λ f. let r = arc_from t rest f in (r.0, has_there a r.0 rest r.1, r.2))
     (and_cases (not (eqb a.first t)) (none_from t rest) e)
 
-none_from_all : (t : ℕ) (arcs : List Arc) → none_from t arcs ≡ true → AllByRecursion (λ a. a.first ≡ t → ⊥) arcs
-none_from_all t [] e = tt
+none_from_all : (t : ℕ) (arcs : List Arc) → none_from t arcs ≡ true → (a : Arc) → Contains arcs a → a.first ≡ t → ⊥
+none_from_all t [] e = λ a i. absurd (omega (arith, i.1))
 none_from_all t (a ∷ rest) e =
     let p = and_parts (not (eqb a.first t)) (none_from t rest) e in
-    (eqb-false a.first t (not-true (eqb a.first t) p.0), none_from_all t rest p.1)
+    each_more (λ b. b.first ≡ t → ⊥) a rest (eqb-false a.first t (not-true (eqb a.first t) p.0)) (none_from_all t rest p.1)
 
 pub ends_have_no_arc_out_lem : EndsHaveNoArcOut
 ends_have_no_arc_out_lem g t = (
-  (λ e a h. all-has (λ a. a.first ≡ t → ⊥) g.arcs a (none_from_all t g.arcs e) h),
+  (λ e. none_from_all t g.arcs e),
   λ f. ⊎_elim (λ e. e) (λ e. let a = arc_from t g.arcs e in absurd (f a.0 a.1 a.2)) (cases_Bool (is_end g t)),
 )
 
 -- the test of feeding finds every arc that feeds, and no other
-feeds_all : (C : Set) (u : ℕ) (arcs : List Arc) → C u ≡ false → feeds C u arcs ≡ false
-    → AllByRecursion (λ a. a.first ≡ u → C a.second ≡ true → ⊥) arcs
-feeds_all C u [] f h = tt
-feeds_all C u (a ∷ rest) f h =
-    let p = or_parts (eqb a.first u && (C a.second && not (C u))) (feeds C u rest) h in (
-      (λ e c. both_ways (eqb a.first u && (C a.second && not (C u))) p.0 (and_from (eqb a.first u) (C a.second && not (C u))
-          (eq-eqb a.first u e) (and_from (C a.second) (not (C u)) c (not_from_false (C u) f)))),
-      feeds_all C u rest f p.1,
-    )
-
-feeds_from : (C : Set) (u : ℕ) (arcs : List Arc) (a : Arc) → ContainsAt arcs a → a.first ≡ u → C a.second ≡ true → C u ≡ false
-    → feeds C u arcs ≡ true
-feeds_from C u arcs a h e c f =
-    ⊎_elim (λ t. t) (λ n. absurd (all-has (λ a. a.first ≡ u → C a.second ≡ true → ⊥) arcs a (feeds_all C u arcs f n) h e c))
-    (cases_Bool (feeds C u arcs))
-
 feeds_by : (C : Set) (u : ℕ) (arcs : List Arc) → feeds C u arcs ≡ true
-    → (a : Arc) × ContainsAt arcs a × (a.first ≡ u) × (C a.second ≡ true) × (C u ≡ false)
+    → (a : Arc) × Contains arcs a × (a.first ≡ u) × (C a.second ≡ true) × (C u ≡ false)
 feeds_by C u [] h = absurd (both_ways false refl h)
 feeds_by C u (a ∷ rest) h =
     ⊎_elim
@@ -62,9 +46,18 @@ feeds_by C u (a ∷ rest) h =
     (λ e. let r = feeds_by C u rest e in (r.0, has_there a r.0 rest r.1, r.2, r.3, r.4))
     (or_cases (eqb a.first u && (C a.second && not (C u))) (feeds C u rest) h)
 
+feeds_from : (C : Set) (u : ℕ) (arcs : List Arc) (a : Arc) → Contains arcs a → a.first ≡ u → C a.second ≡ true → C u ≡ false
+    → feeds C u arcs ≡ true
+feeds_from C u [] = λ a i. absurd (omega (arith, i.1))
+feeds_from C u (b ∷ rest) =
+    each_more (λ a. a.first ≡ u → C a.second ≡ true → C u ≡ false → feeds C u (b ∷ rest) ≡ true) b rest
+    (λ e c f. or_left (eqb b.first u && (C b.second && not (C u))) (feeds C u rest)
+    (and_from (eqb b.first u) (C b.second && not (C u)) (eq-eqb b.first u e) (and_from (C b.second) (not (C u)) c (not_from_false (C u) f))))
+    (λ a i e c f. or_right (eqb b.first u && (C b.second && not (C u))) (feeds C u rest) (feeds_from C u rest a i e c f))
+
 module _ (g : Graph) (es : List ℕ) where
-  feeds_any_from : (u v : ℕ) (vs : List ℕ) → ContainsAt vs v → feeds (cluster g es v) u g.arcs ≡ true → feeds_any g es u vs ≡ true
-  feeds_any_from u v [] i h = absurd (has_none v i)
+  feeds_any_from : (u v : ℕ) (vs : List ℕ) → Contains vs v → feeds (cluster g es v) u g.arcs ≡ true → feeds_any g es u vs ≡ true
+  feeds_any_from u v [] i h = absurd (omega (arith, i.1))
   feeds_any_from u v (w ∷ vs) i h =
       ⊎_elim
       (λ e. or_left (feeds (cluster g es w) u g.arcs) (feeds_any g es u vs)
@@ -72,7 +65,7 @@ module _ (g : Graph) (es : List ℕ) where
       (λ j. or_right (feeds (cluster g es w) u g.arcs) (feeds_any g es u vs) (feeds_any_from u v vs j h))
       (has_cases w v vs i)
 
-  feeds_any_by : (u : ℕ) (vs : List ℕ) → feeds_any g es u vs ≡ true → (v : ℕ) × ContainsAt vs v × (feeds (cluster g es v) u g.arcs ≡ true)
+  feeds_any_by : (u : ℕ) (vs : List ℕ) → feeds_any g es u vs ≡ true → (v : ℕ) × Contains vs v × (feeds (cluster g es v) u g.arcs ≡ true)
   feeds_any_by u [] h = absurd (both_ways false refl h)
   feeds_any_by u (v ∷ vs) h =
       ⊎_elim
@@ -87,62 +80,64 @@ module _ (g : Graph) (es : List ℕ) where
   abbrev newly : ℕ → List ℕ
   newly k = cond (chosen k) ((tasks g - suc k) ∷ []) []
 
-  newly_is : (k v : ℕ) → ContainsAt (newly k) v → (chosen k ≡ true) × (v ≡ tasks g - suc k)
+  newly_is : (k v : ℕ) → Contains (newly k) v → (chosen k ≡ true) × (v ≡ tasks g - suc k)
   newly_is k v =
-      cond_both (chosen k) ((tasks g - suc k) ∷ []) [] (λ l. ContainsAt l v → (chosen k ≡ true) × (v ≡ tasks g - suc k))
-      (λ c h. (c, ⊎_elim (λ e. sym e) (λ n. absurd (has_none v n)) (has_cases (tasks g - suc k) v [] h)))
-      (λ _ h. absurd (has_none v h))
+      cond_both (chosen k) ((tasks g - suc k) ∷ []) [] (λ l. Contains l v → (chosen k ≡ true) × (v ≡ tasks g - suc k))
+      (λ c h. (c, ⊎_elim (λ e. sym e) (λ n. absurd (omega (arith, n.1))) (has_cases (tasks g - suc k) v [] h)))
+      (λ _ h. absurd (omega (arith, h.1)))
 
-  marked_range : (k : ℕ) → k ≤ tasks g → (v : ℕ) → ContainsAt (marked g es k) v → (v < tasks g) × (tasks g ≤ v + k)
-  marked_range zero l v h = absurd (has_none v h)
+  newly_one : (k : ℕ) → length (newly k) ≤ 1
+  newly_one k = cond_both (chosen k) ((tasks g - suc k) ∷ []) [] (λ l. length l ≤ 1) (λ _. omega arith) (λ _. omega arith)
+
+  marked_range : (k : ℕ) → k ≤ tasks g → (v : ℕ) → Contains (marked g es k) v → (v < tasks g) × (tasks g ≤ v + k)
+  marked_range zero l v h = absurd (omega (arith, h.1))
   marked_range (suc k) l v h =
       ⊎_elim
       (λ i. let r = marked_range k (omega (arith, l)) v i in (r.0, omega (arith, r.1)))
       (λ i. let e = (newly_is k v i).1 in (omega (arith, e, l), omega (arith, e, l)))
-      (has_append_cases v (marked g es k) (newly k) h)
+      (Contains-append_cases (marked g es k) (newly k) v h)
 
-  pub marks_below : (v : ℕ) → ContainsAt (marks g es) v → v < tasks g
+  pub marks_below : (v : ℕ) → Contains (marks g es) v → v < tasks g
   marks_below v h = (marked_range (tasks g) (omega arith) v h).0
 
   pub mark_below : (i : ℕ) → i < length (marks g es) → get_or (marks g es) i 0 < tasks g
-  mark_below i l = marks_below (get_or (marks g es) i 0) (has_get_or (marks g es) i 0 l)
+  mark_below i l = marks_below (get_or (marks g es) i 0) (Contains-get_or (marks g es) i 0 l)
 
   pub length_marked : (k : ℕ) → length (marked g es k) ≤ k
   length_marked zero = omega arith
   length_marked (suc k) =
-      let one = cond_both (chosen k) ((tasks g - suc k) ∷ []) [] (λ l. length l ≤ 1) (λ _. omega arith) (λ _. omega arith) in
-      omega (arith, length-append (marked g es k) (newly k), length_marked k, one)
+      omega (arith, length-append (marked g es k) (newly k), length_marked k, newly_one k)
 
   -- marks stay
-  marked_stays : (v k n : ℕ) → k ≤ n → ContainsAt (marked g es k) v → ContainsAt (marked g es n) v
-  marked_stays v k zero h i = subst (λ x. ContainsAt (marked g es x) v) {x = k} {y = 0} (omega arith) i
+  marked_stays : (v k n : ℕ) → k ≤ n → Contains (marked g es k) v → Contains (marked g es n) v
+  marked_stays v k zero h i = subst (λ x. Contains (marked g es x) v) {x = k} {y = 0} (omega arith) i
   marked_stays v k (suc n) h i =
       ⊎_elim
-      (λ e. subst (λ x. ContainsAt (marked g es x) v) e i)
-      (λ ne. has_append_left (marked g es n) (newly n) v (marked_stays v k n (omega (arith, h, ne)) i))
+      (λ e. subst (λ x. Contains (marked g es x) v) e i)
+      (λ ne. Contains-append_left (marked g es n) (newly n) v (marked_stays v k n (omega (arith, h, ne)) i))
       (cases_eq k (suc n))
 
   -- a task is marked when its turn comes, or never
-  marked_early : (v k n : ℕ) → n ≤ tasks g → k ≤ n → tasks g ≤ v + k → ContainsAt (marked g es n) v → ContainsAt (marked g es k) v
-  marked_early v k zero s h l i = absurd (has_none v i)
+  marked_early : (v k n : ℕ) → n ≤ tasks g → k ≤ n → tasks g ≤ v + k → Contains (marked g es n) v → Contains (marked g es k) v
+  marked_early v k zero s h l i = absurd (omega (arith, i.1))
   marked_early v k (suc n) s h l i =
       ⊎_elim
-      (λ e. subst (λ x. ContainsAt (marked g es x) v) (sym e) i)
+      (λ e. subst (λ x. Contains (marked g es x) v) (sym e) i)
       (λ ne. ⊎_elim
       (λ j. marked_early v k n (omega (arith, s)) (omega (arith, h, ne)) l j)
       (λ j. absurd (omega (arith, (newly_is n v j).1, s, h, l, ne)))
-      (has_append_cases v (marked g es n) (newly n) i))
+      (Contains-append_cases (marked g es n) (newly n) v i))
       (cases_eq k (suc n))
 
-  mark : (k : ℕ) → chosen k ≡ true → ContainsAt (marked g es (suc k)) (tasks g - suc k)
+  mark : (k : ℕ) → chosen k ≡ true → Contains (marked g es (suc k)) (tasks g - suc k)
   mark k c =
-      has_append_right (marked g es k) (newly k) (tasks g - suc k)
-      (subst (λ l. ContainsAt l (tasks g - suc k)) (sym (cond-true (chosen k) ((tasks g - suc k) ∷ []) [] c)) (has_here (tasks g - suc k) []))
+      Contains-append_right (marked g es k) (newly k) (tasks g - suc k)
+      (subst (λ l. Contains l (tasks g - suc k)) (sym (cond-true (chosen k) ((tasks g - suc k) ∷ []) [] c)) (has_here (tasks g - suc k) []))
 
   -- a task whose test holds at its turn is marked
-  mark_task : (t : ℕ) → t < tasks g → is_marked g es (marked g es (tasks g - suc t)) t ≡ true → ContainsAt (marks g es) t
+  mark_task : (t : ℕ) → t < tasks g → is_marked g es (marked g es (tasks g - suc t)) t ≡ true → Contains (marks g es) t
   mark_task t small e =
-      subst (ContainsAt (marks g es)) same
+      subst (Contains (marks g es)) same
       (marked_stays (tasks g - suc k) (suc k) (tasks g) (omega (arith, small))
       (mark k (subst (λ x. is_marked g es (marked g es k) x ≡ true) (sym same) e)))
     where
@@ -152,12 +147,12 @@ module _ (g : Graph) (es : List ℕ) where
       same : tasks g - suc k ≡ t
       same = omega (arith, small)
 
-  pub marked_end : (t : ℕ) → t < tasks g → is_end g t ≡ true → ContainsAt (marks g es) t
+  pub marked_end : (t : ℕ) → t < tasks g → is_end g t ≡ true → Contains (marks g es) t
   marked_end t small e = mark_task t small (or_left (is_end g t) _ e)
 
   module _ (fw : Forward g) where
     -- what feeds a marked cluster is marked
-    pub marked_feeds : (v u : ℕ) → ContainsAt (marks g es) v → Feeds g es v u → ContainsAt (marks g es) u
+    pub marked_feeds : (v u : ℕ) → Contains (marks g es) v → Feeds g es v u → Contains (marks g es) u
     marked_feeds v u i f =
         mark_task u (omega (arith, low, small)) (or_right (is_end g u) (feeds_any g es u (marked g es k))
         (feeds_any_from u v (marked g es k) (marked_early v k (tasks g) (omega arith) (omega arith) (omega (arith, low, small)) i)
@@ -173,8 +168,8 @@ module _ (g : Graph) (es : List ℕ) where
         low = omega (arith, f.2, fw f.0 f.1, cluster_most g es fw v f.0.second f.3)
 
     -- a marked task is an end task, or feeds a marked cluster
-    marked_why : (k u : ℕ) → k ≤ tasks g → ContainsAt (marked g es k) u → (is_end g u ≡ true) ⊎ ((v : ℕ) × ContainsAt (marks g es) v × Feeds g es v u)
-    marked_why zero u l h = absurd (has_none u h)
+    marked_why : (k u : ℕ) → k ≤ tasks g → Contains (marked g es k) u → (is_end g u ≡ true) ⊎ ((v : ℕ) × Contains (marks g es) v × Feeds g es v u)
+    marked_why zero u l h = absurd (omega (arith, h.1))
     marked_why (suc k) u l h =
         ⊎_elim
         (λ i. marked_why k u (omega (arith, l)) i)
@@ -189,18 +184,18 @@ module _ (g : Graph) (es : List ℕ) where
               (feeds_by (cluster g es a.0) (tasks g - suc k) g.arcs a.2),
         ))
         (or_cases (is_end g (tasks g - suc k)) (feeds_any g es (tasks g - suc k) (marked g es k)) n.0))
-        (has_append_cases u (marked g es k) (newly k) h)
+        (Contains-append_cases (marked g es k) (newly k) u h)
 
-    marked_falls : (k : ℕ) → k ≤ tasks g → Pairs (λ u w. w < u) (marked g es k)
-    marked_falls zero l = tt
+    marked_falls : (k : ℕ) → k ≤ tasks g → AllPairs (λ u w. w < u) (marked g es k)
+    marked_falls zero l = pairs_short (λ u w. w < u) [] (omega arith)
     marked_falls (suc k) l =
         pairs-append (λ u w. w < u) (marked g es k) (newly k) (marked_falls k (omega (arith, l)))
-        (cond_both (chosen k) ((tasks g - suc k) ∷ []) [] (Pairs (λ u w. w < u)) (λ _. (tt, tt)) (λ _. tt))
+        (pairs_short (λ u w. w < u) (newly k) (newly_one k))
         (λ u w i j. omega (arith, (newly_is k w j).1, marked_range k (omega (arith, l)) u i, l))
 
 pub marks_are_needed_lem : MarksAreNeeded
 marks_are_needed_lem g es fw = record {
-  falling = λ i j l m. pairs-get_or (λ u w. w < u) (marks g es) 0 i j (marked_falls g es fw (tasks g) (omega arith)) l m;
+  falling = λ i j. marked_falls g es fw (tasks g) (omega arith) i j 0;
   tasks_only = marks_below g es;
   ends = marked_end g es;
   fed = λ v u i f. marked_feeds g es fw v u i f;

@@ -1,9 +1,10 @@
 -- No valid schedule starts a task before its bound. Given a row of v on a processor, take the ancestors of v that have ended there
 -- when it starts: their run has ended by then, and what enters them and v has come by then, so their reach, and with it the bound, is
 -- no later than the row's start.
-use Rattle.std.proofs.Common.{◌≡◌, ℕ, zero, suc, ◌+◌, ◌<◌, ◌≤◌, Bool, true, false, ◌&&◌, eqb, ltb, leb, ◌⊎◌, List, length, sym, refl, ap, ◌∙◌, subst, subst₂, inl, inr, arith}
-use Rattle.std.specs.List.{ContainsAt}
-use Rattle.std.proofs.lemmas.Bool.{and_from, and_parts, both_ways, cases_order, eq-eqb, eqb-true, le-leb, leb-true, lt-ltb, ltb-true}
+use Rattle.std.proofs.Common.{◌≡◌, ℕ, zero, suc, ◌+◌, ◌<◌, ◌≤◌, Bool, true, false, ◌&&◌, eqb, ltb, leb, ◌⊎◌, List, length, sym, refl, ap, ◌∙◌, subst, subst₂, inl, inr, ⊎_elim, arith}
+use Rattle.std.specs.List.{Contains, position_or_len}
+use Rattle.std.proofs.lemmas.Bool.{and_from, and_parts, both_ways, cases_lt, cases_order, eq-eqb, eqb-true, le-leb, leb-true, lt-ltb, ltb-true}
+use Rattle.std.proofs.lemmas.List.Sums.{fails_before_first, passes_at_first}
 use Rattle.schedule.specs.declared.Arc.{Arc}
 use Rattle.schedule.specs.declared.Row.{Row}
 use Rattle.schedule.specs.Graph.{Ancestor, Forward, Graph, by_arc, duration, tasks}
@@ -11,10 +12,17 @@ use Rattle.schedule.specs.Schedule.{Apart, InTime, Valid, at, end, no_row}
 use Rattle.schedule.specs.Bounds.{Bounds, Set, arrival, bound, enters, front, reach, run, with}
 use Rattle.schedule.specs.Theorems.{NoScheduleStartsEarlier}
 use Rattle.schedule.proofs.Ancestry.{ancestor_before, ancestor_below, leads_complete, leads_sound, leads_to}
-use Rattle.schedule.proofs.FirstPlace.{place, place_first, place_passes}
 use Rattle.schedule.proofs.Fronts.{front_low}
 use Rattle.schedule.proofs.Runs.{run_within}
 use Rattle.schedule.proofs.Sets.{enters_parts, with_cases, with_false}
+
+-- where a row passes a test, the first that passes is found
+found : (q : Row → Bool) (rows : List Row) (i : ℕ) → i < length rows → q (at rows i) ≡ true → position_or_len q rows < length rows
+found q rows i l e =
+    ⊎_elim
+    (λ k. k)
+    (λ k. absurd (both_ways (q (at rows i)) (fails_before_first q rows i no_row (omega (arith, l, k))) e))
+    (cases_lt (position_or_len q rows) (length rows))
 
 -- a row of u on p that ends by s
 abbrev runs : Graph → ℕ → ℕ → ℕ → Row → Bool
@@ -22,7 +30,7 @@ runs g p s u r = eqb r.processor p && (eqb r.task u && leb (end g r) s)
 
 -- the place of the first of them
 before : Graph → List Row → ℕ → ℕ → ℕ → ℕ
-before g rows p s u = place (runs g p s u) rows
+before g rows p s u = position_or_len (runs g p s u) rows
 
 -- the ancestors of v that have such a row
 ahead : Graph → List Row → ℕ → ℕ → ℕ → Set
@@ -42,7 +50,7 @@ ran_from_ahead g rows p s v u h =
     let t = and_parts (leads_to g u (suc v) v) (ltb i (length rows)) h in
     let l : i < length rows = ltb-true i (length rows) t.1 in
     let r : Row = at rows i in
-    let a = and_parts (eqb r.processor p) (eqb r.task u && leb (end g r) s) (place_passes (runs g p s u) rows no_row l) in
+    let a = and_parts (eqb r.processor p) (eqb r.task u && leb (end g r) s) (passes_at_first (runs g p s u) rows no_row l) in
     let b = and_parts (eqb r.task u) (leb (end g r) s) a.1 in
     record {
       leads = leads_sound g u (suc v) v t.0;
@@ -58,7 +66,7 @@ unfolding ahead before
 ahead_from_ran g rows f p s v u i h =
     let r : Row = at rows i in
     and_from (leads_to g u (suc v) v) (ltb (before g rows p s u) (length rows)) (leads_complete g f u (suc v) v (omega arith) h.leads)
-    (lt-ltb (before g rows p s u) (length rows) (place_first (runs g p s u) rows i no_row h.within
+    (lt-ltb (before g rows p s u) (length rows) (found (runs g p s u) rows i h.within
     (and_from (eqb r.processor p) (eqb r.task u && leb (end g r) s) (eq-eqb r.processor p h.here)
     (and_from (eqb r.task u) (leb (end g r) s) (eq-eqb r.task u h.of) (le-leb (end g r) s h.ends)))))
 
@@ -94,7 +102,7 @@ module _ (g : Graph) (es : List ℕ) (fw : Forward g) (bs : Bounds g es) (rows :
   })
 
   -- an arc from a task that is not ahead, into one that starts on p by s
-  arrives : (p s v : ℕ) → ((u : ℕ) → u < v → Late u) → (a : Arc) → ContainsAt g.arcs a → ahead g rows p s v a.first ≡ false
+  arrives : (p s v : ℕ) → ((u : ℕ) → u < v → Late u) → (a : Arc) → Contains g.arcs a → ahead g rows p s v a.first ≡ false
       → Ancestor g a.first v
       → (k : ℕ) → k < length rows → (at rows k).task ≡ a.second → (at rows k).processor ≡ p → (at rows k).start ≤ s → arrival g es a ≤ s
   unfolding Late
@@ -119,7 +127,7 @@ module _ (g : Graph) (es : List ℕ) (fw : Forward g) (bs : Bounds g es) (rows :
       K : Set
       K = ahead g rows p s v
 
-      entering : (a : Arc) → ContainsAt g.arcs a → enters (with K v) a ≡ true → arrival g es a ≤ s
+      entering : (a : Arc) → Contains g.arcs a → enters (with K v) a ≡ true → arrival g es a ≤ s
       entering a h e =
           let parts = enters_parts (with K v) a e in
           let out = (with_false K v a.first parts.1).1 in

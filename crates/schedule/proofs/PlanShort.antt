@@ -1,6 +1,6 @@
 -- The plan ends within its factor of every valid schedule.
 use Rattle.std.proofs.Common.{◌≡◌, ℕ, ◌+◌, ◌*◌, ◌<◌, ◌≤◌, true, List, subst, mul-le-mul_left, arith}
-use Rattle.std.proofs.ByRecursion.{has_get_or}
+use Rattle.std.proofs.lemmas.List.Elements.{Contains-get_or}
 use Rattle.schedule.specs.declared.Row.{Row}
 use Rattle.schedule.specs.Graph.{Forward, Graph, duration, is_end, tasks}
 use Rattle.schedule.specs.Schedule.{Valid, at, earliest, makespan, no_row, or_zero}
@@ -8,7 +8,8 @@ use Rattle.schedule.specs.Bounds.{Bounds, bound}
 use Rattle.schedule.specs.Plan.{plan}
 use Rattle.schedule.specs.Theorems.{Grain, PlanIsShort}
 use Rattle.schedule.proofs.Homes.{home_end, home_timely}
-use Rattle.schedule.proofs.Makespans.{first_end, span_high, span_low}
+use Rattle.schedule.proofs.Lists.{read_at}
+use Rattle.schedule.proofs.Makespans.{First, first_end, span_high, span_low}
 use Rattle.schedule.proofs.Marks.{marked_end}
 use Rattle.schedule.proofs.NoEarlier.{no_schedule_starts_earlier_lem}
 use Rattle.schedule.proofs.PlanValid.{Own, own}
@@ -22,17 +23,16 @@ module _ (g : Graph) (es : List ℕ) (fw : Forward g) (bs : Bounds g es) where
   ends_late : (rows : List Row) → Valid g rows → (k : ℕ) → k < tasks g → bound es k + duration g k ≤ or_zero (earliest g k rows)
   ends_late rows valid k l =
       let c = valid.complete k l in
-      let f = (first_end g k rows (at rows c.0) (has_get_or rows c.0 no_row c.1) c.2).0 in
-      let i = f.1 in
-      let late : bound es f.0.task ≤ f.0.start = subst (λ r. bound es r.task ≤ r.start) (i.2 no_row)
-      (no_schedule_starts_earlier_lem g es fw bs rows valid i.0 i.1) in
-      subst (λ x. bound es x + duration g x ≤ or_zero (earliest g k rows)) f.2 (omega (arith, late, f.3))
+      let f : First g k rows (or_zero (earliest g k rows)) = first_end g k rows (at rows c.0) (Contains-get_or rows c.0 no_row c.1) c.2 in
+      let late : bound es f.row.task ≤ f.row.start = subst (λ r. bound es r.task ≤ r.start) (read_at rows f.row no_row f.has)
+      (no_schedule_starts_earlier_lem g es fw bs rows valid f.has.0 f.has.1) in
+      subst (λ x. bound es x + duration g x ≤ or_zero (earliest g k rows)) f.of (omega (arith, late, f.ends))
 
   -- the plan ends an end task first no later than at its home
   pub ends_by_home : (k : ℕ) → k < tasks g → is_end g k ≡ true → or_zero (earliest g k (plan g es)) ≤ home_end g es k
   ends_by_home k l e =
       let o : Own g es fw bs k = own g es fw bs k (marked_end g es k l e) in
-      omega (arith, o.ends, (first_end g k (plan g es) o.row o.planned o.of).1 o.row o.planned o.of)
+      omega (arith, o.ends, (first_end g k (plan g es) o.row o.planned o.of).none_sooner o.row o.planned o.of)
 
   plan_short : (p q : ℕ) → Grain g p q → (other : List Row) → Valid g other
       → (p + q) * makespan g (plan g es) ≤ (p + 2 * q) * makespan g other

@@ -1,7 +1,7 @@
 -- The plan is a valid schedule.
 use Rattle.std.proofs.Common.{◌≡◌, ℕ, zero, suc, ◌+◌, ◌<◌, ◌≤◌, true, false, List, length, get_or, sym, refl, ap, ◌∙◌, subst, inl, inr, ⊎_elim, arith}
-use Rattle.std.specs.List.{ContainsAt}
-use Rattle.std.proofs.ByRecursion.{all-has, has_get_or}
+use Rattle.std.specs.List.{Contains}
+use Rattle.std.proofs.lemmas.List.Elements.{Contains-get_or}
 use Rattle.std.proofs.lemmas.Bool.{cases_Bool, cases_eq}
 use Rattle.schedule.specs.declared.Arc.{Arc}
 use Rattle.schedule.specs.declared.Row.{Row}
@@ -15,43 +15,43 @@ use Rattle.schedule.specs.Theorems.{PlanIsValid}
 use Rattle.schedule.proofs.BoundsRise.{arc_bound}
 use Rattle.schedule.proofs.Homes.{home_end, homes_at}
 use Rattle.schedule.proofs.Inputs.{inputs_all}
-use Rattle.schedule.proofs.Lists.{pairs_cases, pairs-get_or}
+use Rattle.schedule.proofs.Lists.{pairs_cases, read_at}
 use Rattle.schedule.proofs.Marks.{arc_from, mark_below, marked_end, marked_feeds, marks_below}
-use Rattle.schedule.proofs.ProcessorRows.{Follows, HomeRow, InTurn, has_members, home_last, home_pairs, home_row, members_below, members_cluster, rows_has, rows_homed, rows_in_turn, timed_has}
+use Rattle.schedule.proofs.ProcessorRows.{Follows, HomeRow, InTurn, has_members, home_last, home_pairs, home_row, members_in, rows_has, rows_homed, rows_in_turn, timed_has}
 use Rattle.schedule.proofs.RunningOrder.{before_one_way, before_other}
 
 pub plan_in_turn : (g : Graph) (es : List ℕ) (i j : ℕ) → i < j → j < length (plan g es) → InTurn g es (at (plan g es) i) (at (plan g es) j)
-plan_in_turn g es i j l m = pairs-get_or (InTurn g es) (plan g es) no_row i j (rows_in_turn g es 0 (marks g es)) l m
+plan_in_turn g es i j = rows_in_turn g es 0 (marks g es) i j no_row
 
 module _ (g : Graph) (es : List ℕ) (fw : Forward g) (bs : Bounds g es) where
   -- the row of a marked task at its home
   pub record Own (t : ℕ) : Type 0 where
     pub row : Row
-    pub planned : ContainsAt (plan g es) row
+    pub planned : Contains (plan g es) row
     pub home : Home g es t row.processor
     pub of : row.task ≡ t
     pub ends : end g row ≡ home_end g es t
 
-  pub own : (t : ℕ) → ContainsAt (marks g es) t → Own t
+  pub own : (t : ℕ) → Contains (marks g es) t → Own t
   own t j = record {
     row = r.0;
     planned = rows_has g es 0 (marks g es) j.0 r.0 j.1
-        (subst (λ x. ContainsAt (home_rows g es (0 + j.0) x) r.0) (sym (j.2 0)) r.1);
+        (subst (λ x. Contains (home_rows g es (0 + j.0) x) r.0) (sym (read_at (marks g es) t 0 j)) r.1);
     home = subst (Home g es t) {x = j.0} {y = r.0.processor} (omega (arith, (home_row g es (0 + j.0) t r.0 r.1).on))
-        (j.1, j.2 0);
+        (j.1, read_at (marks g es) t 0 j);
     of = r.2;
     ends = r.3;
   }
     where
-      r : (r : Row) × ContainsAt (home_rows g es (0 + j.0) t) r × (r.task ≡ t) × (end g r ≡ home_end g es t)
+      r : (r : Row) × Contains (home_rows g es (0 + j.0) t) r × (r.task ≡ t) × (end g r ≡ home_end g es t)
       r = home_last g es fw bs (0 + j.0) t (marks_below g es t j)
 
   -- what feeds a row
   abbrev Feeder : Arc → Row → Type 0
-  Feeder a r = (s : Row) × ContainsAt (plan g es) s × (s.task ≡ a.first) × InTime g a.delay s r
+  Feeder a r = (s : Row) × Contains (plan g es) s × (s.task ≡ a.first) × InTime g a.delay s r
 
   -- a row r of the i-th processor
-  module _ (i : ℕ) (l : i < length (marks g es)) (r : Row) (m : ContainsAt (home_rows g es (0 + i) (get_or (marks g es) i 0)) r) where
+  module _ (i : ℕ) (l : i < length (marks g es)) (r : Row) (m : Contains (home_rows g es (0 + i) (get_or (marks g es) i 0)) r) where
     abbrev v : ℕ
     v = get_or (marks g es) i 0
 
@@ -62,15 +62,14 @@ module _ (g : Graph) (es : List ℕ) (fw : Forward g) (bs : Bounds g es) where
     timing = home_row g es (0 + i) v r m
 
     row_below : r.task < suc v
-    row_below = all-has (λ u. u < suc v) (members g es v) r.task (members_below g es v) timing.of
+    row_below = (members_in g es v r.task timing.of).0
 
     row_known : r.task < tasks g
     row_known = omega (arith, row_below, mark_below g es i l)
 
-    module _ (a : Arc) (h : ContainsAt g.arcs a) (e : a.second ≡ r.task) where
+    module _ (a : Arc) (h : Contains g.arcs a) (e : a.second ≡ r.task) where
       second_in : C a.second ≡ true
-      second_in =
-          subst (λ x. C x ≡ true) (sym e) (all-has (λ u. C u ≡ true) (members g es v) r.task (members_cluster g es v) timing.of)
+      second_in = subst (λ x. C x ≡ true) (sym e) (members_in g es v r.task timing.of).1
 
       first_below : a.first < v
       first_below = omega (arith, fw a h, e, row_below)
@@ -93,7 +92,7 @@ module _ (g : Graph) (es : List ℕ) (fw : Forward g) (bs : Bounds g es) where
             ((home_row g es (0 + i) v s.0 s.1).on ∙ sym timing.on, before),
       )
         where
-          s : (s : Row) × ContainsAt (home_rows g es (0 + i) v) s × (s.task ≡ a.first)
+          s : (s : Row) × Contains (home_rows g es (0 + i) v) s × (s.task ≡ a.first)
           s =
               timed_has g C (homes g es v) (0 + i) 0 a.first (members g es v)
               (has_members g es v a.first (omega (arith, first_below)) k)
@@ -111,7 +110,7 @@ module _ (g : Graph) (es : List ℕ) (fw : Forward g) (bs : Bounds g es) where
       outside f = (o.row, o.planned, o.of, inr (elsewhere, late))
         where
           o : Own a.first
-          o = own a.first (marked_feeds g es fw v a.first (has_get_or (marks g es) i 0 l) (a, h, refl, second_in, f))
+          o = own a.first (marked_feeds g es fw v a.first (Contains-get_or (marks g es) i 0 l) (a, h, refl, second_in, f))
 
           elsewhere : o.row.processor ≡ r.processor → ⊥
           elsewhere p =
@@ -127,22 +126,20 @@ module _ (g : Graph) (es : List ℕ) (fw : Forward g) (bs : Bounds g es) where
             arith,
             o.ends,
             homes_at g es v a.first first_below,
-            all-has (λ a. a.second ≡ r.task → C a.first ≡ false → get_or (homes g es v) a.first 0 + a.delay ≤ r.start) g.arcs a
-                (inputs_all C (homes g es v) r.task r.start g.arcs timing.fed)
-                h e f,
+            inputs_all C (homes g es v) r.task r.start g.arcs timing.fed a h e f,
           )
 
       feeder : Feeder a r
       feeder = ⊎_elim inside outside (cases_Bool (C a.first))
 
-  pub plan_known : (r : Row) → ContainsAt (plan g es) r → r.task < tasks g
+  pub plan_known : (r : Row) → Contains (plan g es) r → r.task < tasks g
   plan_known r i = let f = rows_homed g es 0 (marks g es) r i in row_known f.0 f.1 r f.2
 
-  plan_fed : (r : Row) → ContainsAt (plan g es) r → (a : Arc) → ContainsAt g.arcs a → a.second ≡ r.task → Feeder a r
+  plan_fed : (r : Row) → Contains (plan g es) r → (a : Arc) → Contains g.arcs a → a.second ≡ r.task → Feeder a r
   plan_fed r i = let f = rows_homed g es 0 (marks g es) r i in feeder f.0 f.1 r f.2
 
   -- a task is an end task, and has a home, or feeds a row of a higher task, and so has a row
-  plan_complete : (n t : ℕ) → tasks g ≤ t + n → t < tasks g → (r : Row) × ContainsAt (plan g es) r × (r.task ≡ t)
+  plan_complete : (n t : ℕ) → tasks g ≤ t + n → t < tasks g → (r : Row) × Contains (plan g es) r × (r.task ≡ t)
   plan_complete zero t h small = absurd (omega arith)
   plan_complete (suc n) t h small =
       ⊎_elim
@@ -159,22 +156,21 @@ module _ (g : Graph) (es : List ℕ) (fw : Forward g) (bs : Bounds g es) where
 
   plan_valid : Valid g (plan g es)
   plan_valid = record {
-    known = λ i l. plan_known (at (plan g es) i) (has_get_or (plan g es) i no_row l);
+    known = λ i l. plan_known (at (plan g es) i) (Contains-get_or (plan g es) i no_row l);
     once = λ i j l m p e. before_other es (at (plan g es) i).task (at (plan g es) j).task (plan_follows i j l m p).1 e;
     apart = λ i j l m p. inl (plan_follows i j l m p).0;
     fed = λ i l a h e.
-        let f = plan_fed (at (plan g es) i) (has_get_or (plan g es) i no_row l) a h e in
+        let f = plan_fed (at (plan g es) i) (Contains-get_or (plan g es) i no_row l) a h e in
         let j = f.1 in (
           j.0,
           j.1,
-          ap (λ r. r.task) (j.2 no_row) ∙ f.2,
-          subst (λ s. InTime g a.delay s (at (plan g es) i)) (sym (j.2 no_row))
-              f.3,
+          ap (λ r. r.task) (read_at (plan g es) f.0 no_row j) ∙ f.2,
+          subst (λ s. InTime g a.delay s (at (plan g es) i)) (sym (read_at (plan g es) f.0 no_row j)) f.3,
         );
     complete = λ t l.
         let r = plan_complete (tasks g) t (omega arith) l in
         let j = r.1 in
-        (j.0, j.1, ap (λ r. r.task) (j.2 no_row) ∙ r.2);
+        (j.0, j.1, ap (λ r. r.task) (read_at (plan g es) r.0 no_row j) ∙ r.2);
   }
 
 pub plan_is_valid_lem : PlanIsValid

@@ -1,11 +1,10 @@
 -- The running order has each task below n, and rises by bound, then number.
-use Rattle.std.proofs.Common.{◌≡◌, ℕ, zero, suc, ◌<◌, false, List, [], ◌∷◌, length, sym, refl, ap, subst, inl, inr, ⊎_elim, arith}
-use Rattle.std.specs.List.{ContainsAt, AllByRecursion}
-use Rattle.std.proofs.ByRecursion.{all-has, All-weaker}
+use Rattle.std.proofs.Common.{◌≡◌, ℕ, zero, suc, ◌<◌, ◌≤◌, ◌⊎◌, List, [], ◌∷◌, length, sym, refl, ap, subst, inl, inr, ⊎_elim, arith}
+use Rattle.std.specs.List.{AllPairs, Contains}
 use Rattle.std.proofs.lemmas.Bool.{cases_eq, cond_both, ltb-false, ltb-true}
 use Rattle.schedule.specs.Bounds.{bound, order, placed, sooner}
 use Rattle.schedule.specs.Laws.{Before, OrderIsSorted}
-use Rattle.schedule.proofs.Lists.{Pairs, has_cases, has_here, has_there, pairs-get_or}
+use Rattle.schedule.proofs.Lists.{has_cases, has_here, has_there, pairs_first, pairs_more, pairs_rest, pairs_short}
 
 pub before_other : (es : List ℕ) (u w : ℕ) → Before es u w → u ≡ w → ⊥
 before_other es u w b e = ⊎_elim (λ l. omega (arith, l, ap (bound es) e)) (λ l. omega (arith, l, e)) b
@@ -14,55 +13,68 @@ pub before_one_way : (es : List ℕ) (u w : ℕ) → Before es u w → Before es
 before_one_way es u w b c = omega (arith, b, c)
 
 module _ (es : List ℕ) where
-  all_placed : (P : ℕ → Type 0) (t : ℕ) (us : List ℕ) → P t → AllByRecursion P us → AllByRecursion P (placed es t us)
-  all_placed P t [] p h = (p, tt)
-  all_placed P t (u ∷ us) p h =
-      cond_both (sooner es t u) (t ∷ u ∷ us) (u ∷ placed es t us) (AllByRecursion P) (λ _. (p, h))
-      (λ _. (h.0, all_placed P t us p h.1))
-
-  has_placed : (t x : ℕ) (us : List ℕ) → ContainsAt (t ∷ us) x → ContainsAt (placed es t us) x
+  has_placed : (t x : ℕ) (us : List ℕ) → Contains (t ∷ us) x → Contains (placed es t us) x
   has_placed t x [] h = h
   has_placed t x (u ∷ us) h =
-      cond_both (sooner es t u) (t ∷ u ∷ us) (u ∷ placed es t us) (λ l. ContainsAt l x)
+      cond_both (sooner es t u) (t ∷ u ∷ us) (u ∷ placed es t us) (λ l. Contains l x)
       (λ _. h)
       (λ _. ⊎_elim
-      (λ e. has_there u x (placed es t us) (has_placed t x us (subst (ContainsAt (t ∷ us)) e (has_here t us))))
+      (λ e. has_there u x (placed es t us) (has_placed t x us (subst (Contains (t ∷ us)) e (has_here t us))))
       (λ k. ⊎_elim
-      (λ e. subst (ContainsAt (u ∷ placed es t us)) e (has_here u (placed es t us)))
+      (λ e. subst (Contains (u ∷ placed es t us)) e (has_here u (placed es t us)))
       (λ m. has_there u x (placed es t us) (has_placed t x us (has_there t x us m)))
       (has_cases u x us k))
       (has_cases t x (u ∷ us) h))
 
-  pub order_below : (n : ℕ) → AllByRecursion (λ u. u < n) (order es n)
-  order_below zero = tt
-  order_below (suc n) =
-      all_placed (λ u. u < suc n) n (order es n) (omega arith)
-      (All-weaker (λ u. u < n) (λ u. u < suc n) (λ x h. omega arith) (order es n) (order_below n))
+  placed_cases : (t x : ℕ) (us : List ℕ) → Contains (placed es t us) x → (t ≡ x) ⊎ Contains us x
+  placed_cases t x [] = has_cases t x []
+  placed_cases t x (u ∷ us) =
+      cond_both (sooner es t u) (t ∷ u ∷ us) (u ∷ placed es t us) (λ l. Contains l x → (t ≡ x) ⊎ Contains (u ∷ us) x)
+      (λ _. has_cases t x (u ∷ us))
+      (λ _ h. ⊎_elim
+      (λ e. inr (subst (Contains (u ∷ us)) e (has_here u us)))
+      (λ k. ⊎_elim (λ e. inl e) (λ m. inr (has_there u x us m)) (placed_cases t x us k))
+      (has_cases u x (placed es t us) h))
 
-  pub has_order : (n x : ℕ) → x < n → ContainsAt (order es n) x
+  pub order_below : (n x : ℕ) → Contains (order es n) x → x < n
+  order_below zero x h = omega (arith, h.1)
+  order_below (suc n) x h =
+      ⊎_elim (λ e. omega (arith, e)) (λ k. omega (arith, order_below n x k)) (placed_cases n x (order es n) h)
+
+  pub has_order : (n x : ℕ) → x < n → Contains (order es n) x
   has_order zero x h = absurd (omega arith)
   has_order (suc n) x h =
       has_placed n x (order es n)
       (⊎_elim
-      (λ e. subst (ContainsAt (n ∷ order es n)) (sym e) (has_here n (order es n)))
+      (λ e. subst (Contains (n ∷ order es n)) (sym e) (has_here n (order es n)))
       (λ ne. has_there n x (order es n) (has_order n x (omega arith)))
       (cases_eq x n))
 
-  pairs_placed : (t : ℕ) (us : List ℕ) → AllByRecursion (λ u. u < t) us → Pairs (Before es) us → Pairs (Before es) (placed es t us)
-  pairs_placed t [] l h = (tt, tt)
+  pairs_placed : (t : ℕ) (us : List ℕ) → ((u : ℕ) → Contains us u → u < t) → AllPairs (Before es) us → AllPairs (Before es) (placed es t us)
+  pairs_placed t [] l h = pairs_short (Before es) (t ∷ []) (omega arith)
   pairs_placed t (u ∷ us) l h =
-      cond_both (sooner es t u) (t ∷ u ∷ us) (u ∷ placed es t us) (Pairs (Before es))
-      (λ e. let k = ltb-true (bound es t) (bound es u) e in
-      ((inl k, All-weaker (Before es u) (Before es t) (λ x b. inl (omega (arith, k, b))) us h.0), h))
-      (λ e. (all_placed (Before es u) t us (last e) h.0, pairs_placed t us l.1 h.1))
+      cond_both (sooner es t u) (t ∷ u ∷ us) (u ∷ placed es t us) (AllPairs (Before es))
+      (λ e. pairs_more (Before es) t (u ∷ us) (first (ltb-true (bound es t) (bound es u) e)) h)
+      (λ e. pairs_more (Before es) u (placed es t us) (later (ltb-false (bound es t) (bound es u) e))
+      (pairs_placed t us (λ x i. l x (has_there u x us i)) (pairs_rest (Before es) u us h)))
     where
-      last : sooner es t u ≡ false → Before es u t
-      last e =
-          ⊎_elim (λ f. inr (f, l.0)) (λ ne. inl (omega (arith, ltb-false (bound es t) (bound es u) e)))
-          (cases_eq (bound es u) (bound es t))
+      first : bound es t < bound es u → (x : ℕ) → Contains (u ∷ us) x → Before es t x
+      first k x i =
+          ⊎_elim
+          (λ e. inl (subst (λ y. bound es t < bound es y) e k))
+          (λ j. inl (omega (arith, k, pairs_first (Before es) u us h x j)))
+          (has_cases u x us i)
 
-  pub order_rises : (n : ℕ) → Pairs (Before es) (order es n)
-  order_rises zero = tt
+      later : bound es u ≤ bound es t → (x : ℕ) → Contains (placed es t us) x → Before es u x
+      later k x i =
+          ⊎_elim
+          (λ e. subst (Before es u) e
+          (⊎_elim (λ f. inr (f, l u (has_here u us))) (λ ne. inl (omega (arith, k, ne))) (cases_eq (bound es u) (bound es t))))
+          (λ j. pairs_first (Before es) u us h x j)
+          (placed_cases t x us i)
+
+  pub order_rises : (n : ℕ) → AllPairs (Before es) (order es n)
+  order_rises zero = pairs_short (Before es) [] (omega arith)
   order_rises (suc n) = pairs_placed n (order es n) (order_below n) (order_rises n)
 
   length-placed : (t : ℕ) (us : List ℕ) → length (placed es t us) ≡ suc (length us)
@@ -79,6 +91,6 @@ pub order_is_sorted_lem : OrderIsSorted
 order_is_sorted_lem es n = record {
   many = length-order es n;
   all = has_order es n;
-  none_else = λ u h. all-has (λ u. u < n) (order es n) u (order_below es n) h;
-  rising = λ i j l m. pairs-get_or (Before es) (order es n) 0 i j (order_rises es n) l m;
+  none_else = order_below es n;
+  rising = λ i j. order_rises es n i j 0;
 }

@@ -1,13 +1,13 @@
 -- The run of a set: it grows with the set, it ends no sooner than each member does alone, and no way to run the set on one processor,
 -- no task before its bound, ends sooner.
 use Rattle.std.proofs.Common.{◌≡◌, ℕ, ◌+◌, ◌<◌, ◌≤◌, max, Bool, true, false, cond, eqb, List, [], ◌∷◌, filter, sym, refl, ap, ◌∙◌, subst, inl, inr, ⊎_elim, arith}
-use Rattle.std.specs.List.{ContainsAt, AllByRecursion}
-use Rattle.std.proofs.ByRecursion.{all_kept_by, All-weaker, kept_by_passes}
+use Rattle.std.specs.List.{AllPairs, Contains}
+use Rattle.std.proofs.lemmas.List.Kept.{AllPairs-filter}
 use Rattle.std.proofs.lemmas.Bool.{cases_eq, cond_both, cond-true, eq-eqb, ne_eqb}
 use Rattle.schedule.specs.Graph.{Graph, duration}
 use Rattle.schedule.specs.Bounds.{Set, after, bound, order, run, run_from}
 use Rattle.schedule.specs.Laws.{Before, RunIsShortest, Separate, Singly}
-use Rattle.schedule.proofs.Lists.{Pairs, all_both, has_cases, has_none, pairs_kept, pairs_weaker}
+use Rattle.schedule.proofs.Lists.{each_more, has_cases, has_here, has_there, kept_has, pairs_first, pairs_rest, pairs_weaker}
 use Rattle.schedule.proofs.Packing.{packed, total}
 use Rattle.schedule.proofs.RunningOrder.{before_other, has_order, order_below, order_rises}
 use Rattle.schedule.proofs.Sets.{Within}
@@ -52,8 +52,8 @@ module _ (g : Graph) (es : List ℕ) where
   abbrev Runs : Set → ℕ → List ℕ → ℕ → Type 0
   Runs K t us u = (t ≤ clock K t us u) × (bound es u ≤ clock K t us u) × (clock K t us u + duration g u ≤ run_from g es K t us)
 
-  runs : (K : Set) (t : ℕ) (us : List ℕ) (u : ℕ) → ContainsAt us u → K u ≡ true → Runs K t us u
-  runs K t [] u h k = absurd (has_none u h)
+  runs : (K : Set) (t : ℕ) (us : List ℕ) (u : ℕ) → Contains us u → K u ≡ true → Runs K t us u
+  runs K t [] u h k = absurd (omega (arith, h.1))
   runs K t (w ∷ ws) u h k =
       ⊎_elim
       (λ e. let c = clock_here K t w ws u e in
@@ -67,12 +67,12 @@ module _ (g : Graph) (es : List ℕ) where
       (cases_eq w u)
 
   -- a run ends no sooner than each member does alone
-  pub run_member : (K : Set) (t : ℕ) (us : List ℕ) (u : ℕ) → ContainsAt us u → K u ≡ true → bound es u + duration g u ≤ run_from g es K t us
+  pub run_member : (K : Set) (t : ℕ) (us : List ℕ) (u : ℕ) → Contains us u → K u ≡ true → bound es u + duration g u ≤ run_from g es K t us
   run_member K t us u h k = let r = runs K t us u h k in omega (arith, r.1, r.2)
 
-  clocks_apart : (K : Set) (t : ℕ) (us : List ℕ) (x y : ℕ) → ContainsAt us x → ContainsAt us y → K x ≡ true → K y ≡ true → (x ≡ y → ⊥)
+  clocks_apart : (K : Set) (t : ℕ) (us : List ℕ) (x y : ℕ) → Contains us x → Contains us y → K x ≡ true → K y ≡ true → (x ≡ y → ⊥)
       → Separate (clock K t us) (duration g) x y
-  clocks_apart K t [] x y i j k l ne = absurd (has_none x i)
+  clocks_apart K t [] x y i j k l ne = absurd (omega (arith, i.1))
   clocks_apart K t (w ∷ ws) x y i j k l ne =
       ⊎_elim
       (λ e. inl (first x y k e (λ f. ne (sym e ∙ f)) (tail y j (λ f. ne (sym e ∙ f))) l))
@@ -85,10 +85,10 @@ module _ (g : Graph) (es : List ℕ) where
       (cases_eq w y))
       (cases_eq w x)
     where
-      tail : (z : ℕ) → ContainsAt (w ∷ ws) z → (w ≡ z → ⊥) → ContainsAt ws z
+      tail : (z : ℕ) → Contains (w ∷ ws) z → (w ≡ z → ⊥) → Contains ws z
       tail z h nz = ⊎_elim (λ e. absurd (nz e)) (λ m. m) (has_cases w z ws h)
 
-      first : (x y : ℕ) → K x ≡ true → w ≡ x → (w ≡ y → ⊥) → ContainsAt ws y → K y ≡ true
+      first : (x y : ℕ) → K x ≡ true → w ≡ x → (w ≡ y → ⊥) → Contains ws y → K y ≡ true
           → clock K t (w ∷ ws) x + duration g x ≤ clock K t (w ∷ ws) y
       first x y k e ny m l =
           let a : after g es K t w ≡ max t (bound es x) + duration g x = subst (λ z. after g es K t z ≡ max t (bound es x) + duration g x)
@@ -118,52 +118,60 @@ module _ (g : Graph) (es : List ℕ) where
   run_all_by s t [] l h = omega arith
   run_all_by s t (u ∷ us) l h = run_all_by s (max t (bound es u) + duration g u) us (omega (arith, h.0)) h.1
 
-  -- runs of ts that start no earlier than the bounds, end by s and are apart leave room for them all from each one's bound on
-  fits_from : (start : ℕ → ℕ) (s : ℕ) (ts : List ℕ)
-      → Pairs (Before es) ts → AllByRecursion (λ z. bound es z ≤ start z) ts → AllByRecursion (λ z. start z + duration g z ≤ s) ts → Pairs
-      (Separate start (duration g)) ts → Fits s ts
-  fits_from start s [] rise from to apart = tt
-  fits_from start s (u ∷ us) rise from to apart = (
-    packed start (duration g) (bound es u) s (u ∷ us) (omega (arith, from.0, to.0)) (
-      from.0,
-      all_both (Before es u)
-          (λ z. bound es z ≤ start z) (λ z. bound es u ≤ start z) (λ z a b. omega (arith, a, b)) us rise.0 from.1,
-    ) to apart,
-    fits_from start s us rise.1 from.1 to.1 apart.1,
+  -- runs of ts, in running order, that start no earlier than the bounds, end by s and are apart
+  record Kept (start : ℕ → ℕ) (s : ℕ) (ts : List ℕ) : Type 0 where
+    rise : AllPairs (Before es) ts
+    from : (z : ℕ) → Contains ts z → bound es z ≤ start z
+    to : (z : ℕ) → Contains ts z → start z + duration g z ≤ s
+    apart : AllPairs (Separate start (duration g)) ts
+
+  kept_rest : (start : ℕ → ℕ) (s u : ℕ) (us : List ℕ) → Kept start s (u ∷ us) → Kept start s us
+  kept_rest start s u us h = record {
+    rise = pairs_rest (Before es) u us h.rise;
+    from = λ z i. h.from z (has_there u z us i);
+    to = λ z i. h.to z (has_there u z us i);
+    apart = pairs_rest (Separate start (duration g)) u us h.apart;
+  }
+
+  -- they leave room for them all from each one's bound on
+  fits_from : (start : ℕ → ℕ) (s : ℕ) (ts : List ℕ) → Kept start s ts → Fits s ts
+  fits_from start s [] h = tt
+  fits_from start s (u ∷ us) h = (
+    packed start (duration g) (bound es u) s (u ∷ us) (omega (arith, first, h.to u (has_here u us))) late h.to h.apart,
+    fits_from start s us (kept_rest start s u us h),
   )
+    where
+      first : bound es u ≤ start u
+      first = h.from u (has_here u us)
+
+      late : (z : ℕ) → Contains (u ∷ us) z → bound es u ≤ start z
+      late =
+          each_more (λ z. bound es u ≤ start z) u us first
+          (λ z i. omega (arith, pairs_first (Before es) u us h.rise z i, h.from z (has_there u z us i)))
 
   -- so running ts in their order, each as early as possible, ends by s
-  run_all_within : (start : ℕ → ℕ) (s : ℕ) (ts : List ℕ)
-      → Pairs (Before es) ts → AllByRecursion (λ z. bound es z ≤ start z) ts → AllByRecursion (λ z. start z + duration g z ≤ s) ts → Pairs
-      (Separate start (duration g)) ts → run_all 0 ts ≤ s
-  run_all_within start s ts rise from to apart =
-      run_all_by s 0 ts
-      (packed start (duration g) 0 s ts (omega arith)
-      (All-weaker (λ z. bound es z ≤ start z) (λ z. 0 ≤ start z) (λ z h. omega arith) ts from) to apart)
-      (fits_from start s ts rise from to apart)
+  run_all_within : (start : ℕ → ℕ) (s : ℕ) (ts : List ℕ) → Kept start s ts → run_all 0 ts ≤ s
+  run_all_within start s ts h =
+      run_all_by s 0 ts (packed start (duration g) 0 s ts (omega arith) (λ z i. omega arith) h.to h.apart) (fits_from start s ts h)
 
   pub run_within : (n : ℕ) (K : Set) (start : ℕ → ℕ) (s : ℕ) → Singly g es n K start s → run g es n K ≤ s
   run_within n K start s h =
-      subst (λ e. e ≤ s) (sym (run_kept K 0 (order es n)))
-      (run_all_within start s ts rise
-      (All-weaker In (λ z. bound es z ≤ start z) (λ z i. h.from z i.0 i.1) ts in')
-      (All-weaker In (λ z. start z + duration g z ≤ s) (λ z i. h.to z i.0 i.1) ts in')
-      (pairs_weaker In (Before es) (Separate start (duration g))
-      (λ x y i j b. h.apart x y i.0 j.0 i.1 j.1 (before_other es x y b)) ts in' rise))
+      subst (λ e. e ≤ s) (sym (run_kept K 0 (order es n))) (run_all_within start s ts (record {
+        rise = rise;
+        from = λ z i. h.from z (inside z i).0 (inside z i).1;
+        to = λ z i. h.to z (inside z i).0 (inside z i).1;
+        apart = pairs_weaker (Before es) (Separate start (duration g)) ts
+            (λ x y i j b. h.apart x y (inside x i).0 (inside y j).0 (inside x i).1 (inside y j).1 (before_other es x y b)) rise;
+      }))
     where
       ts : List ℕ
       ts = filter K (order es n)
 
-      In : ℕ → Type 0
-      In z = (z < n) × (K z ≡ true)
+      inside : (z : ℕ) → Contains ts z → (z < n) × (K z ≡ true)
+      inside z i = let k = kept_has K z (order es n) i in (order_below es n z k.1, k.0)
 
-      in' : AllByRecursion In ts
-      in' =
-          all_both (λ z. z < n) (λ z. K z ≡ true) In (λ z l k. (l, k)) ts (all_kept_by K (λ z. z < n) (order es n) (order_below es n))
-          (kept_by_passes K (order es n))
-
-      rise : Pairs (Before es) ts
-      rise = pairs_kept K (Before es) (order es n) (order_rises es n)
+      rise : AllPairs (Before es) ts
+      rise = AllPairs-filter (Before es) K (order es n) (order_rises es n)
 
 pub run_is_shortest_lem : RunIsShortest
 run_is_shortest_lem g es n K = (

@@ -1,8 +1,8 @@
 -- For graphs within the limits every number that the planner computes is small.
-use Rattle.std.proofs.Common.{◌≡◌, ℕ, zero, suc, ◌+◌, ◌*◌, ◌<◌, ◌≤◌, max, true, List, [], ◌∷◌, length, get_or, filter, refl, ap, ⊎_elim, arith}
-use Rattle.std.specs.List.{ContainsAt, AllByRecursion}
-use Rattle.std.proofs.ByRecursion.{All-weaker}
+use Rattle.std.proofs.Common.{◌≡◌, ℕ, zero, suc, ◌+◌, ◌*◌, ◌<◌, ◌≤◌, max, true, List, [], ◌∷◌, length, get_or, refl, ap, ⊎_elim, arith}
+use Rattle.std.specs.List.{Contains}
 use Rattle.std.proofs.lemmas.List.{get_or_past, length-append}
+use Rattle.std.proofs.lemmas.List.Sums.{count_by-le-length, length-filter}
 use Rattle.std.proofs.lemmas.Bool.{cases_lt, cond_both, false≢true}
 use Rattle.schedule.specs.declared.Arc.{Arc}
 use Rattle.schedule.specs.declared.Row.{Row}
@@ -15,7 +15,7 @@ use Rattle.schedule.specs.Sizes.{GrowthFits, NumbersFit, PlanFits, Small}
 use Rattle.schedule.proofs.Ancestry.{ancestor_below}
 use Rattle.schedule.proofs.Fronts.{front_low}
 use Rattle.schedule.proofs.Homes.{home_end, home_timely, homes_at}
-use Rattle.schedule.proofs.Lists.{all_from_has}
+use Rattle.schedule.proofs.Lists.{has_here, has_there}
 use Rattle.schedule.proofs.Makespans.{span_low}
 use Rattle.schedule.proofs.Marks.{length_marked, mark_below, marks_below}
 use Rattle.schedule.proofs.PlanShort.{ends_by_home}
@@ -30,20 +30,14 @@ run_none g es t (u ∷ us) = run_none g es t us
 
 -- a run that starts by m, of tasks whose bounds are at most m
 run_most : (g : Graph) (es : List ℕ) (K : Set) (m t : ℕ) (us : List ℕ)
-    → t ≤ m → AllByRecursion (λ u. (bound es u ≤ m) × (duration g u ≤ 1_000_000)) us → run_from g es K t us ≤ m + 1_000_000 * length us
+    → t ≤ m → ((u : ℕ) → Contains us u → (bound es u ≤ m) × (duration g u ≤ 1_000_000)) → run_from g es K t us ≤ m + 1_000_000 * length us
 run_most g es K m t [] l h = omega arith
 run_most g es K m t (u ∷ us) l h =
     let step : after g es K t u ≤ m + 1_000_000 = cond_both (K u) (max t (bound es u) + duration g u) t (λ x. x ≤ m + 1_000_000)
-    (λ _. omega (arith, h.0)) (λ _. omega arith) in
-    let rest = run_most g es K (m + 1_000_000) (after g es K t u) us step (All-weaker (λ u. (bound es u ≤ m) × (duration g u ≤ 1_000_000))
-    (λ u. (bound es u ≤ m + 1_000_000) × (duration g u ≤ 1_000_000)) (λ u k. (omega (arith, k.0), k.1)) us h.1) in
+    (λ _. omega (arith, h u (has_here u us))) (λ _. omega arith) in
+    let rest = run_most g es K (m + 1_000_000) (after g es K t u) us step
+    (λ w i. let k = h w (has_there u w us i) in (omega (arith, k.0), k.1)) in
     omega (arith, rest)
-
-length-kept : (C : Set) (us : List ℕ) → length (filter C us) ≤ length us
-length-kept C [] = omega arith
-length-kept C (u ∷ us) =
-    let k = length-kept C us in
-    cond_both (C u) (u ∷ filter C us) (filter C us) (λ l. length l ≤ suc (length us)) (λ _. omega (arith, k)) (λ _. omega (arith, k))
 
 length-timed : (g : Graph) (C : Set) (hs : List ℕ) (p t : ℕ) (ws : List ℕ) → length (timed g C hs p t ws) ≡ length ws
 length-timed g C hs p t [] = refl
@@ -54,21 +48,20 @@ length-home_rows g es p v =
     omega (
       arith,
       length-timed g (cluster g es v) (homes g es v) p 0 (members g es v),
-      length-kept (cluster g es v)
-          (order es (suc v)),
+      length-filter (cluster g es v) (order es (suc v)),
+      count_by-le-length (cluster g es v) (order es (suc v)),
       length-order es (suc v),
     )
 
-length-rows : (g : Graph) (es : List ℕ) (p : ℕ) (vs : List ℕ) → AllByRecursion (λ v. v < 256) vs → length (rows_from g es p vs) ≤ 256 * length vs
+length-rows : (g : Graph) (es : List ℕ) (p : ℕ) (vs : List ℕ) → ((v : ℕ) → Contains vs v → v < 256) → length (rows_from g es p vs) ≤ 256 * length vs
 length-rows g es p [] h = omega arith
 length-rows g es p (v ∷ vs) h =
     omega (
       arith,
       length-append (home_rows g es p v) (rows_from g es (suc p) vs),
       length-home_rows g es p v,
-      length-rows g es (suc p) vs
-          h.1,
-      h.0,
+      length-rows g es (suc p) vs (λ w i. h w (has_there v w vs i)),
+      h v (has_here v vs),
     )
 
 module _ (g : Graph) (es : List ℕ) (fw : Forward g) (small : Small g) where
@@ -77,7 +70,7 @@ module _ (g : Graph) (es : List ℕ) (fw : Forward g) (small : Small g) where
       ⊎_elim (λ l. small.short t l) (λ l. omega (arith, get_or_past g.durations t 0 l)) (cases_lt t (tasks g))
 
   -- an arc brings at most 2,000,000 more than the bound of its first task
-  arrival_most : (n : ℕ) → ((u : ℕ) → u < n → bound es u ≤ 2_000_000 * u) → (a : Arc) → ContainsAt g.arcs a → a.first < n
+  arrival_most : (n : ℕ) → ((u : ℕ) → u < n → bound es u ≤ 2_000_000 * u) → (a : Arc) → Contains g.arcs a → a.first < n
       → arrival g es a ≤ 2_000_000 * a.first + 2_000_000
   arrival_most n lower a h l = omega (arith, lower a.first l, duration_most a.first, small.near a h)
 
@@ -104,10 +97,9 @@ module _ (g : Graph) (es : List ℕ) (fw : Forward g) (small : Small g) where
   module _ (n : ℕ) (few : n ≤ tasks g) (bs : BoundsTo g es n) where
     run_of : (v : ℕ) → v ≤ n → (K : Set) → run g es v K ≤ 768_000_000
     run_of v l K =
-        let each : AllByRecursion (λ u. (bound es u ≤ 512_000_000) × (duration g u ≤ 1_000_000)) (order es v) =
-        All-weaker (λ u. u < v) (λ u. (bound es u ≤ 512_000_000) × (duration g u ≤ 1_000_000))
-        (λ u k. (omega (arith, bound_most n bs u (omega (arith, k, l)), k, l, few, small.few), duration_most u)) (order es v)
-        (order_below es v) in
+        let each : (u : ℕ) → Contains (order es v) u → (bound es u ≤ 512_000_000) × (duration g u ≤ 1_000_000) = λ u i.
+        let k = order_below es v u i in
+        (omega (arith, bound_most n bs u (omega (arith, k, l)), k, l, few, small.few), duration_most u) in
         omega (arith, run_most g es K 512_000_000 0 (order es v) (omega arith) each, length-order es v, l, few, small.few)
 
     growth_fits : GrowthFits g es n
@@ -126,7 +118,7 @@ module _ (g : Graph) (es : List ℕ) (fw : Forward g) (small : Small g) where
         omega
         (arith, home_timely g es fw bs 0 1 (λ a h. omega arith) v l, bound_most (tasks g) bs.least v l, duration_most v, l, small.few)
 
-    row_fits : (r : Row) → ContainsAt (plan g es) r → (r.processor < 256) × (r.task < 256) × (end g r ≤ 1_021_000_000)
+    row_fits : (r : Row) → Contains (plan g es) r → (r.processor < 256) × (r.task < 256) × (end g r ≤ 1_021_000_000)
     row_fits r h =
         let f = rows_homed g es 0 (marks g es) r h in
         let v : ℕ = get_or (marks g es) f.0 0 in
@@ -146,8 +138,7 @@ module _ (g : Graph) (es : List ℕ) (fw : Forward g) (small : Small g) where
           (λ t l e. omega (arith, ends_by_home g es fw bs t l e, home_most t l)) in omega (arith, s);
       processors = omega (arith, length_marked g es (tasks g), small.few);
       row_count =
-          let below : AllByRecursion (λ v. v < 256) (marks g es) = all_from_has (λ v. v < 256) (marks g es)
-          (λ v h. omega (arith, marks_below g es v h, small.few)) in
+          let below : (v : ℕ) → Contains (marks g es) v → v < 256 = λ v h. omega (arith, marks_below g es v h, small.few) in
           omega (arith, length-rows g es 0 (marks g es) below, length_marked g es (tasks g), small.few);
     }
 

@@ -1,7 +1,7 @@
 -- The worked cases. The bounds are those of the relation: growth finds them by computing, and what it finds are the bounds.
 use Rattle.std.proofs.Common.{◌≡◌, ℕ, zero, suc, ◌<◌, List, [], ◌∷◌, refl, subst, inl, inr, arith}
 use Rattle.std.specs.List.{AllByRecursion}
-use Rattle.std.proofs.ByRecursion.{All-get_or, all-has}
+use Rattle.std.proofs.lemmas.List.Elements.{All-contains, All-from_recursion, All-get_or}
 use Rattle.schedule.specs.declared.Arc.{Arc}
 use Rattle.schedule.specs.declared.Row.{Row}
 use Rattle.schedule.specs.Graph.{Forward, Graph, tasks}
@@ -11,7 +11,6 @@ use Rattle.schedule.specs.Cases.{Broken, Cases, Plans, Worked, arc, clusters, di
 use Rattle.schedule.specs.Growth.{found_bounds}
 use Rattle.schedule.specs.Plan.{plan}
 use Rattle.schedule.proofs.BoundsExist.{found_are_bounds}
-use Rattle.schedule.proofs.Lists.{Pairs, pairs-get_or}
 use Rattle.schedule.proofs.PlanValid.{plan_is_valid_lem}
 
 abbrev Leads : Graph → Arc → Type 0
@@ -31,7 +30,7 @@ work_out g es cs rows length all found made planned long = record {
 }
   where
     fw : Forward g
-    fw a h = all-has (Leads g) g.arcs a all h
+    fw a h = All-contains (Leads g) g.arcs a (All-from_recursion (Leads g) g.arcs all) h
 
     bs : Bounds g es
     bs = subst (Bounds g) found (found_are_bounds g fw)
@@ -62,7 +61,7 @@ broken = record {
   twice = λ v. v.once 0 2 (omega arith) (omega arith) refl refl;
   overlap = λ v. omega (arith, v.apart 0 1 (omega arith) (omega arith) refl);
   inside = λ v. omega (arith, v.apart 0 1 (omega arith) (omega arith) refl);
-  early = λ v. let f = v.fed 2 (omega arith) (arc 1 2 2) (1, omega arith, λ d. refl) refl in too_early f.0 f.1 f.2 f.3;
+  early = λ v. let f = v.fed 2 (omega arith) (arc 1 2 2) (1, omega arith, refl) refl in too_early f.0 f.1 f.2 f.3;
   missing = λ v. let c = v.complete 1 (omega arith) in other_task c.0 c.1 c.2;
 }
 
@@ -81,24 +80,38 @@ own_task (suc zero) l = refl
 own_task (suc (suc zero)) l = refl
 own_task (suc (suc (suc t))) l = absurd (omega arith)
 
+on_one : (i j : ℕ) → i < j → j < 3 → OnOne (at (rows_to 8) i) (at (rows_to 8) j)
+on_one zero zero l m p = absurd (omega arith)
+on_one (suc i) zero l m p = absurd (omega arith)
+on_one zero (suc zero) l m p = ((λ e. omega (arith, e)), inl (omega arith))
+on_one (suc i) (suc zero) l m p = absurd (omega arith)
+on_one zero (suc (suc zero)) l m p = absurd (omega (arith, p))
+on_one (suc zero) (suc (suc zero)) l m p = absurd (omega (arith, p))
+on_one (suc (suc i)) (suc (suc zero)) l m p = absurd (omega arith)
+on_one i (suc (suc (suc j))) l m p = absurd (omega arith)
+
 in_time : Valid (join 2) (rows_to 8)
 in_time = record {
-  known = λ i l. All-get_or (λ r. r.task < 3) (rows_to 8) i no_row l (omega arith);
-  once = λ i j l m p e. (pairs-get_or OnOne (rows_to 8) no_row i j apart l m p).0 e;
-  apart = λ i j l m p. (pairs-get_or OnOne (rows_to 8) no_row i j apart l m p).1;
-  fed = λ i l a h e. all-has (Fed (at (rows_to 8) i)) (join 2).arcs a
-      (All-get_or (λ r. AllByRecursion (Fed r) (join 2).arcs) (rows_to 8) i no_row l fed) h e;
+  known = λ i l. All-get_or Known (rows_to 8) i no_row l (All-from_recursion Known (rows_to 8) (omega arith));
+  once = λ i j l m p e. (on_one i j l m p).0 e;
+  apart = λ i j l m p. (on_one i j l m p).1;
+  fed = λ i l a h e. All-contains (Fed (at (rows_to 8) i)) arcs a
+      (All-from_recursion (Fed (at (rows_to 8) i)) arcs
+      (All-get_or FedAll (rows_to 8) i no_row l (All-from_recursion FedAll (rows_to 8) fed))) h e;
   complete = λ t l. (t, l, own_task t l);
 }
   where
-    apart : Pairs OnOne (rows_to 8)
-    apart = (
-      ((λ _. ((λ e. omega (arith, e)), inl (omega arith))), ((λ p. absurd (omega (arith, p))), tt)),
-      (((λ p. absurd (omega (arith, p))), tt), (tt, tt)),
-    )
+    arcs : List Arc
+    arcs = (join 2).arcs
+
+    Known : Row → Type 0
+    Known r = r.task < 3
+
+    FedAll : Row → Type 0
+    FedAll r = AllByRecursion (Fed r) arcs
 
     -- nothing is sent to tasks 0 and 1, and what tasks 0 and 1 send to task 2 comes at 5 and 8
-    fed : AllByRecursion (λ r. AllByRecursion (Fed r) (join 2).arcs) (rows_to 8)
+    fed : AllByRecursion FedAll (rows_to 8)
     fed = (
       ((λ e. absurd (omega (arith, e))), ((λ e. absurd (omega (arith, e))), tt)),
       (

@@ -1,6 +1,6 @@
 -- A task graph: how long each task runs, and which task needs what of which. Tasks go by number, counted from 0.
 use Rattle.std.specs.Prelude.{◌≡◌, ℕ, ◌<◌, Bool, true, not, ◌&&◌, List, [], ◌∷◌, length, ◌==◌, slice_index}
-use Rattle.std.specs.List.{ContainsAt}
+use Rattle.std.specs.List.{Contains}
 use Rattle.schedule.specs.declared.Arc.{Arc}
 
 pub record Graph : Type 0 where
@@ -17,12 +17,12 @@ duration g t = slice_index g.durations t
 
 -- Each arc leads from a task to one of higher number, so the graph has no cycle.
 abbrev pub Forward : Graph → Type 0
-Forward g = (a : Arc) → ContainsAt g.arcs a → (a.first < a.second) × (a.second < tasks g)
+Forward g = (a : Arc) → Contains g.arcs a → (a.first < a.second) × (a.second < tasks g)
 
 -- u is an ancestor of v: arcs lead from u to v.
 pub data Ancestor (g : Graph) : ℕ → ℕ → Type 0 where
-  by_arc : {u v : ℕ} (a : Arc) → ContainsAt g.arcs a → a.first ≡ u → a.second ≡ v → Ancestor g u v
-  through : {u v : ℕ} (a : Arc) → ContainsAt g.arcs a → Ancestor g u a.first → a.second ≡ v → Ancestor g u v
+  by_arc : {u v : ℕ} (a : Arc) → Contains g.arcs a → a.first ≡ u → a.second ≡ v → Ancestor g u v
+  through : {u v : ℕ} (a : Arc) → Contains g.arcs a → Ancestor g u a.first → a.second ≡ v → Ancestor g u v
 
 abbrev pub none_from : ℕ → List Arc → Bool
 none_from t [] = true

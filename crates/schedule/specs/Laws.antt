@@ -1,6 +1,6 @@
 -- What the definitions that compute come to, in words that name no computation. Each law is the contract of a function of the crate.
 use Rattle.std.specs.Prelude.{◌≡◌, ℕ, ◌+◌, ◌<◌, ◌≤◌, true, false, ◌⊎◌, ◌↔◌, List, length, ◌≢◌, slice_index}
-use Rattle.std.specs.List.{ContainsAt}
+use Rattle.std.specs.List.{Contains}
 use Rattle.schedule.specs.declared.Arc.{Arc}
 use Rattle.schedule.specs.declared.Row.{Row}
 use Rattle.schedule.specs.Graph.{Forward, Graph, duration, is_end, tasks}
@@ -12,7 +12,7 @@ use Rattle.schedule.specs.Plan.{marks, plan}
 -- An end task is one that no arc leads out of.
 abbrev pub EndsHaveNoArcOut : Type 0
 EndsHaveNoArcOut =
-    (g : Graph) (t : ℕ) → (is_end g t ≡ true) ↔ ((a : Arc) → ContainsAt g.arcs a → a.first ≢ t)
+    (g : Graph) (t : ℕ) → (is_end g t ≡ true) ↔ ((a : Arc) → Contains g.arcs a → a.first ≢ t)
 
 -- By tick m each end task has a row that has ended.
 abbrev pub EndedBy : Graph → List Row → ℕ → Type 0
@@ -31,8 +31,8 @@ Before es u w = (bound es u < bound es w) ⊎ ((bound es u ≡ bound es w) × (u
 -- The running order is the tasks below n, each once, sorted.
 pub record Sorted (es : List ℕ) (n : ℕ) : Type 0 where
   pub many : length (order es n) ≡ n
-  pub all : (u : ℕ) → u < n → ContainsAt (order es n) u
-  pub none_else : (u : ℕ) → ContainsAt (order es n) u → u < n
+  pub all : (u : ℕ) → u < n → Contains (order es n) u
+  pub none_else : (u : ℕ) → Contains (order es n) u → u < n
   pub rising : (i j : ℕ) → i < j → j < length (order es n) → Before es (slice_index (order es n) i) (slice_index (order es n) j)
 
 abbrev pub OrderIsSorted : Type 0
@@ -56,7 +56,7 @@ RunIsShortest =
 
 -- By tick m what every arc from outside K to inside carries has come.
 abbrev pub ComeBy : Graph → List ℕ → Set → ℕ → Type 0
-ComeBy g es K m = (a : Arc) → ContainsAt g.arcs a → enters K a ≡ true → arrival g es a ≤ m
+ComeBy g es K m = (a : Arc) → Contains g.arcs a → enters K a ≡ true → arrival g es a ≤ m
 
 -- The front of a set is the least tick by which what every arc from outside to inside carries has come.
 abbrev pub FrontIsLeast : Type 0
@@ -67,8 +67,8 @@ FrontIsLeast = (g : Graph) (es : List ℕ) (K : Set) (m : ℕ) → (front g es K
 pub record Adds (g : Graph) (es : List ℕ) (v : ℕ) (K L : Set) : Type 0 where
   pub task : ℕ
   pub adds : L ≡ with K task
-  pub brings : (a : Arc) × ContainsAt g.arcs a × (a.first ≡ task) × (enters (with K v) a ≡ true) × (arrival g es a ≡ front g es (with K v))
-  pub lowest : (a : Arc) → ContainsAt g.arcs a → enters (with K v) a ≡ true → arrival g es a ≡ front g es (with K v) → task ≤ a.first
+  pub brings : (a : Arc) × Contains g.arcs a × (a.first ≡ task) × (enters (with K v) a ≡ true) × (arrival g es a ≡ front g es (with K v))
+  pub lowest : (a : Arc) → Contains g.arcs a → enters (with K v) a ≡ true → arrival g es a ≡ front g es (with K v) → task ≤ a.first
 
 -- While the run of its set is below the front growth adds a task, and from then on its set stays.
 pub record Grows (g : Graph) (es : List ℕ) (v : ℕ) : Type 0 where
@@ -82,15 +82,15 @@ GrowthAddsTheLowest = (g : Graph) (es : List ℕ) (v : ℕ) → Forward g → Gr
 
 -- u feeds the cluster of v: an arc leads from u, outside it, into it.
 abbrev pub Feeds : Graph → List ℕ → ℕ → ℕ → Type 0
-Feeds g es v u = (a : Arc) × ContainsAt g.arcs a × (a.first ≡ u) × (cluster g es v a.second ≡ true) × (cluster g es v u ≡ false)
+Feeds g es v u = (a : Arc) × Contains g.arcs a × (a.first ≡ u) × (cluster g es v a.second ≡ true) × (cluster g es v u ≡ false)
 
 -- The marked tasks, in falling order, are the end tasks and those that feed the cluster of a marked task, and no others.
 pub record Marked (g : Graph) (es : List ℕ) : Type 0 where
   pub falling : (i j : ℕ) → i < j → j < length (marks g es) → slice_index (marks g es) j < slice_index (marks g es) i
-  pub tasks_only : (u : ℕ) → ContainsAt (marks g es) u → u < tasks g
-  pub ends : (u : ℕ) → u < tasks g → is_end g u ≡ true → ContainsAt (marks g es) u
-  pub fed : (v u : ℕ) → ContainsAt (marks g es) v → Feeds g es v u → ContainsAt (marks g es) u
-  pub needed : (u : ℕ) → ContainsAt (marks g es) u → (is_end g u ≡ true) ⊎ ((v : ℕ) × ContainsAt (marks g es) v × Feeds g es v u)
+  pub tasks_only : (u : ℕ) → Contains (marks g es) u → u < tasks g
+  pub ends : (u : ℕ) → u < tasks g → is_end g u ≡ true → Contains (marks g es) u
+  pub fed : (v u : ℕ) → Contains (marks g es) v → Feeds g es v u → Contains (marks g es) u
+  pub needed : (u : ℕ) → Contains (marks g es) u → (is_end g u ≡ true) ⊎ ((v : ℕ) × Contains (marks g es) v × Feeds g es v u)
 
 abbrev pub MarksAreNeeded : Type 0
 MarksAreNeeded = (g : Graph) (es : List ℕ) → Forward g → Marked g es
@@ -102,18 +102,18 @@ Home g es v p = (p < length (marks g es)) × (slice_index (marks g es) p ≡ v)
 -- By tick m all is there for row r, which runs in the cluster C: every copy before it on its processor has ended, and every input from
 -- outside C has come, which is when its task has ended at its home, and then the delay.
 pub record Ready (g : Graph) (es : List ℕ) (C : Set) (r : Row) (m : ℕ) : Type 0 where
-  pub free : (s : Row) → ContainsAt (plan g es) s → s.processor ≡ r.processor → Before es s.task r.task → end g s ≤ m
+  pub free : (s : Row) → Contains (plan g es) s → s.processor ≡ r.processor → Before es s.task r.task → end g s ≤ m
   pub fed :
-      (a : Arc) → ContainsAt g.arcs a → a.second ≡ r.task → C a.first ≡ false
-      → (s : Row) → ContainsAt (plan g es) s → s.task ≡ a.first → Home g es a.first s.processor → end g s + a.delay ≤ m
+      (a : Arc) → Contains g.arcs a → a.second ≡ r.task → C a.first ≡ false
+      → (s : Row) → Contains (plan g es) s → s.task ≡ a.first → Home g es a.first s.processor → end g s + a.delay ≤ m
 
 -- What the rows of the plan are.
 pub record Planned (g : Graph) (es : List ℕ) : Type 0 where
   -- the home of v runs the cluster of v
   pub runs : (v p : ℕ) → Home g es v p → (u : ℕ) → cluster g es v u ≡ true
-      → (r : Row) × ContainsAt (plan g es) r × (r.processor ≡ p) × (r.task ≡ u)
+      → (r : Row) × Contains (plan g es) r × (r.processor ≡ p) × (r.task ≡ u)
   -- and nothing else runs
-  pub homed : (r : Row) → ContainsAt (plan g es) r → (v : ℕ) × Home g es v r.processor × (cluster g es v r.task ≡ true)
+  pub homed : (r : Row) → Contains (plan g es) r → (v : ℕ) × Home g es v r.processor × (cluster g es v r.task ≡ true)
   -- rows stand by processor, then in running order
   pub ordered :
       (i j : ℕ) → i < j → j < length (plan g es)
@@ -121,7 +121,7 @@ pub record Planned (g : Graph) (es : List ℕ) : Type 0 where
       ⊎ (((at (plan g es) i).processor ≡ (at (plan g es) j).processor) × Before es (at (plan g es) i).task (at (plan g es) j).task)
   -- a copy starts as soon as all is there for it
   pub starts :
-      (v : ℕ) (r : Row) → ContainsAt (plan g es) r → Home g es v r.processor
+      (v : ℕ) (r : Row) → Contains (plan g es) r → Home g es v r.processor
       → (m : ℕ) → (r.start ≤ m) ↔ Ready g es (cluster g es v) r m
 
 abbrev pub PlanStartsWhenReady : Type 0

@@ -1,7 +1,7 @@
 -- Which lists of rows are valid schedules of a graph, and how long one takes. Processors and starts are any whole numbers from 0 on,
 -- so a statement about every valid schedule speaks of every number of processors and of any number of copies.
 use Rattle.std.specs.Prelude.{◌≡◌, ℕ, zero, suc, ◌+◌, ◌<◌, ◌≤◌, min, max, cond, ◌⊎◌, List, [], ◌∷◌, length, Some, None, Option, ◌==◌, ◌≢◌, slice_index_or}
-use Rattle.std.specs.List.{ContainsAt}
+use Rattle.std.specs.List.{Contains}
 use Rattle.schedule.specs.declared.Arc.{Arc}
 use Rattle.schedule.specs.declared.Row.{Row}
 use Rattle.schedule.specs.Graph.{Graph, duration, is_end, tasks}
@@ -36,7 +36,7 @@ pub record Valid (g : Graph) (rows : List Row) : Type 0 where
   pub apart : (i j : ℕ) → i < j → j < length rows → (at rows i).processor ≡ (at rows j).processor → Apart g (at rows i) (at rows j)
   -- for each row and each arc into its task, some row of the arc's first task is in time
   pub fed :
-      (i : ℕ) → i < length rows → (a : Arc) → ContainsAt g.arcs a → a.second ≡ (at rows i).task
+      (i : ℕ) → i < length rows → (a : Arc) → Contains g.arcs a → a.second ≡ (at rows i).task
       → (j : ℕ) × (j < length rows) × ((at rows j).task ≡ a.first) × InTime g a.delay (at rows j) (at rows i)
   -- each task has a row
   pub complete : (t : ℕ) → t < tasks g → (i : ℕ) × (i < length rows) × ((at rows i).task ≡ t)

@@ -1,6 +1,6 @@
 -- What is proved of the definitions. Each statement is the contract of a function of the crate. Durations may be 0 in all of them.
 use Rattle.std.specs.Prelude.{◌≡◌, ℕ, ◌+◌, ◌*◌, ◌<◌, ◌≤◌, List, length}
-use Rattle.std.specs.List.{ContainsAt}
+use Rattle.std.specs.List.{Contains}
 use Rattle.schedule.specs.declared.Arc.{Arc}
 use Rattle.schedule.specs.declared.Row.{Row}
 use Rattle.schedule.specs.Graph.{Forward, Graph, duration, tasks}
@@ -46,7 +46,7 @@ PlanIsValid = (g : Graph) (es : List ℕ) → Forward g → Bounds g es → Vali
 
 -- p × delay is at most q × the first task's duration, on every arc.
 abbrev pub Grain : Graph → ℕ → ℕ → Type 0
-Grain g p q = (a : Arc) → ContainsAt g.arcs a → p * a.delay ≤ q * duration g a.first
+Grain g p q = (a : Arc) → Contains g.arcs a → p * a.delay ≤ q * duration g a.first
 
 -- rows ends within (p + 2q) / (p + q) times the length of every valid schedule.
 abbrev pub WithinFactor : Graph → List Row → Type 0

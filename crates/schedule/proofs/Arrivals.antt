@@ -2,7 +2,7 @@
 use Rattle.std.proofs.Common.{◌≡◌, ℕ, ◌<◌, ◌≤◌, true, false, ◌&&◌, eqb, ltb, leb, ◌⊎◌, List, [], ◌∷◌, map, length, get_or, sym, refl, ap, ◌∙◌, subst, inl, inr, ⊎_elim, arith}
 use Rattle.std.specs.List.{Contains}
 use Rattle.std.proofs.lemmas.List.Elements.{Contains-get_or}
-use Rattle.std.proofs.lemmas.Bool.{and_cases, and_from, and_parts, cases_Bool, cond_both, cond-false, cond-true, eq-eqb, eqb-false, eqb-true, le-leb, ltb-false, ltb-true, or_cases, or_parts}
+use Rattle.std.proofs.lemmas.Bool.{and_cases, and_from, and_left, and_parts, and_right, cases_Bool, cases_eq, cond_both, cond-false, cond-true, eq-eqb, eqb-false, eqb-true, le-leb, ltb-false, ltb-true, ne_eqb, or_cases, or_parts}
 use Rattle.segment_tree.specs.BestArrivals.{best_arrivals, best_read, no_arrival, wins}
 use Rattle.segment_tree.specs.Tree.{total}
 use Rattle.segment_tree.specs.declared.arrivals.BestArrival.{BestArrival}
@@ -67,7 +67,11 @@ total_best (x ∷ xs) =
     })
 
 module _ (g : Graph) (es : List ℕ) (S : Set) where
-  -- the numbers of an arc from u that enters
+  -- an arc that does not enter is blank
+  by_out : (u : ℕ) (a : Arc) → enters S a ≡ false → arrival_by g es S u a ≡ no_arrival
+  by_out u a f = cond-false _ _ _ (and_right _ (enters S a) f)
+
+  -- an arc from u that enters has these numbers
   by_in : (u : ℕ) (a : Arc) → u ≤ 4_294_967_295 → a.first ≡ u → enters S a ≡ true
       → ((arrival_by g es S u a).arrival ≡ arrival g es a) × ((arrival_by g es S u a).task ≡ u)
   by_in u a l e f =
@@ -92,12 +96,12 @@ module _ (g : Graph) (es : List ℕ) (S : Set) where
       → (arrival_by g es S u a ≡ no_arrival) ⊎ From u (arrival_by g es S u a)
   by_cases u l a h =
       ⊎_elim
-      (λ e. let p = and_parts (eqb a.first u) (enters S a) e in
-      let f = eqb-true a.first u p.0 in
-      let n = by_in u a l f p.1 in
-      inr (record { arc = a; has = h; of = f; into = p.1; arrives = n.0; named = n.1 }))
-      (λ e. inl (cond-false (eqb a.first u && enters S a) (best_read (record { arrival = arrival g es a; task = u })) no_arrival e))
-      (cases_Bool (eqb a.first u && enters S a))
+      (λ e. ⊎_elim
+      (λ f. let n = by_in u a l f e in inr (record { arc = a; has = h; of = f; into = e; arrives = n.0; named = n.1 }))
+      (λ ne. inl (cond-false _ _ _ (and_left (eqb a.first u) _ (ne_eqb a.first u ne))))
+      (cases_eq a.first u))
+      (λ e. inl (by_out u a e))
+      (cases_Bool (enters S a))
 
   -- the best arrival from u is blank or brought by an arc from u
   from_cases : (u : ℕ) → u ≤ 4_294_967_295 → (arrival_from g es S u ≡ no_arrival) ⊎ From u (arrival_from g es S u)

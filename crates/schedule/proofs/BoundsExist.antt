@@ -11,7 +11,7 @@ use Rattle.schedule.proofs.Locality.{Agree, least_agrees}
 
 module _ (g : Graph) (fw : Forward g) where
   -- a list of bounds, and one more that was found with it
-  pub bounds_more : (es : List ℕ) (v b : ℕ) → length es ≡ v → BoundsTo g es v → Least g es v b → BoundsTo g (es ++ b ∷ []) (suc v)
+  bounds_more : (es : List ℕ) (v b : ℕ) → length es ≡ v → BoundsTo g es v → Least g es v b → BoundsTo g (es ++ b ∷ []) (suc v)
   bounds_more es v b len each here u l =
       ⊎_elim
       (λ p. subst (λ x. Least g (es ++ b ∷ []) x (bound (es ++ b ∷ []) x)) (sym p)
@@ -36,10 +36,10 @@ module _ (g : Graph) (fw : Forward g) where
       (growth_least g (found_bounds g n) n fw) u l
 
   pub found_are_bounds : Bounds g (found_bounds g (tasks g))
-  found_are_bounds = record { each = length_found (tasks g); least = found_to (tasks g) }
+  found_are_bounds = record { each = omega (arith, length_found (tasks g)); least = found_to (tasks g) }
 
   -- the bounds below n determine the next one
-  pub bounds_agree : (es fs : List ℕ) (n : ℕ) → BoundsTo g es n → BoundsTo g fs n → Agree es fs n
+  bounds_agree : (es fs : List ℕ) (n : ℕ) → BoundsTo g es n → BoundsTo g fs n → Agree es fs n
   bounds_agree es fs zero b c u l = absurd (omega arith)
   bounds_agree es fs (suc n) b c u l =
       let lower : Agree es fs n = bounds_agree es fs n (λ w m. b w (omega (arith, m))) (λ w m. c w (omega (arith, m))) in
@@ -49,7 +49,7 @@ module _ (g : Graph) (fw : Forward g) where
       (λ np. lower u (omega (arith, l, np)))
       (cases_eq u n)
 
-  pub bounds_unique : (es fs : List ℕ) → Bounds g es → Bounds g fs → es ≡ fs
+  bounds_unique : (es fs : List ℕ) → Bounds g es → Bounds g fs → es ≡ fs
   bounds_unique es fs b c =
       ext_get_or 0 es fs (b.each ∙ sym c.each) (λ i l. bounds_agree es fs (tasks g) b.least c.least i (omega (arith, l, b.each)))
 

@@ -19,11 +19,11 @@ use Rattle.schedule.proofs.Sets.{enters_from, with_cases, with_self}
 
 module _ (g : Graph) (es : List ℕ) (v : ℕ) where
   -- growth's set of turn k attains the bound
-  abbrev pub Attains : ℕ → Type 0
+  abbrev Attains : ℕ → Type 0
   Attains k = reach g es v (grown g es v k) ≡ bound es v
 
   -- the earliest turn, from k on, that attains the bound gives the earliest set
-  pub earliest_set_is : (n k i : ℕ) → k ≤ i → i ≤ n + k → Attains i → ((j : ℕ) → k ≤ j → j < i → Attains j → ⊥)
+  earliest_set_is : (n k i : ℕ) → k ≤ i → i ≤ n + k → Attains i → ((j : ℕ) → k ≤ j → j < i → Attains j → ⊥)
       → earliest_set g es v n k ≡ grown g es v i
   earliest_set_is zero k i l h a before = ap (grown g es v) {x = k} {y = i} (omega arith)
   earliest_set_is (suc n) k i l h a before =
@@ -36,7 +36,7 @@ module _ (g : Graph) (es : List ℕ) (v : ℕ) where
       (cases_eq i k)
 
   -- where a turn attains the bound, there is an earliest
-  pub earliest_turn : (n k j : ℕ) → k ≤ j → j ≤ n + k → Attains j
+  earliest_turn : (n k j : ℕ) → k ≤ j → j ≤ n + k → Attains j
       → (i : ℕ) × (k ≤ i) × (i ≤ j) × Attains i × ((h : ℕ) → k ≤ h → h < i → Attains h → ⊥)
   earliest_turn zero k j l h a = (j, l, omega arith, a, λ i m o. absurd (omega (arith, l, h, m, o)))
   earliest_turn (suc n) k j l h a =
@@ -57,6 +57,41 @@ module _ (g : Graph) (es : List ℕ) (v : ℕ) where
 abbrev pub others : Graph → List ℕ → ℕ → Set
 others g es v = earliest_set g es v v 0
 
+module _ (g : Graph) (es : List ℕ) (fw : Forward g) (bs : Bounds g es) (v : ℕ) (small : v < tasks g) where
+  -- the earliest turn whose set attains the bound
+  pub record Chosen : Type 0 where
+    pub turns : ℕ
+    pub is : others g es v ≡ grown g es v turns
+    pub attains : reach g es v (grown g es v turns) ≡ bound es v
+    pub earliest : (k : ℕ) → k < turns → reach g es v (grown g es v k) ≡ bound es v → ⊥
+
+  pub chosen : Chosen
+  chosen = record {
+    turns = e.0;
+    is = earliest_set_is g es v v 0 e.0 e.1 (omega (arith, e.2, a.1)) e.3 e.4;
+    attains = e.3;
+    earliest = λ k l. e.4 k (omega arith) l;
+  }
+    where
+      a : (j : ℕ) × (j ≤ v) × (reach g es v (grown g es v j) ≡ least_reach g es v v)
+      a = least_attained g es v v
+
+      same : least_reach g es v v ≡ bound es v
+      same = least_one g es v (least_reach g es v v) (bound es v) (growth_least g es v fw) (bs.least v small)
+
+      e : (i : ℕ) × (0 ≤ i) × (i ≤ a.0) × Attains g es v i × ((h : ℕ) → 0 ≤ h → h < i → Attains g es v h → ⊥)
+      e = earliest_turn g es v v 0 a.0 (omega arith) (omega (arith, a.1)) (a.2 ∙ same)
+
+  -- the cluster is v and that set
+  cluster_is : cluster g es v ≡ with (grown g es v chosen.turns) v
+  cluster_is = ap (λ K. with K v) chosen.is
+
+  others_reach : reach g es v (others g es v) ≡ bound es v
+  others_reach = ap (reach g es v) chosen.is ∙ chosen.attains
+
+  pub run_fits : run g es v (others g es v) ≤ bound es v
+  run_fits = omega (arith, others_reach)
+
 -- whatever the bounds are, the earliest set is a set of growth
 earliest_set-grown : (g : Graph) (es : List ℕ) (v n k : ℕ) → (i : ℕ) × (earliest_set g es v n k ≡ grown g es v i)
 earliest_set-grown g es v zero k = (k, refl)
@@ -67,10 +102,10 @@ earliest_set-grown g es v (suc n) k =
     (λ _. earliest_set-grown g es v n (suc k))
 
 module _ (g : Graph) (es : List ℕ) (fw : Forward g) (v : ℕ) where
-  pub others_ancestors : Ancestors g v (others g es v)
+  others_ancestors : Ancestors g v (others g es v)
   others_ancestors u e = let s = earliest_set-grown g es v v 0 in grown_ancestors g es v fw s.0 u (sym (ap (λ S. S u) s.1) ∙ e)
 
-  pub cluster_cases : (u : ℕ) → cluster g es v u ≡ true → (u ≡ v) ⊎ Ancestor g u v
+  cluster_cases : (u : ℕ) → cluster g es v u ≡ true → (u ≡ v) ⊎ Ancestor g u v
   cluster_cases u e = ⊎_elim (λ p. inl p) (λ k. inr (others_ancestors u k)) (with_cases (others g es v) v u e)
 
   pub cluster_most : (u : ℕ) → cluster g es v u ≡ true → u ≤ v
@@ -111,41 +146,9 @@ kept_placed es C K v (u ∷ us) c h s =
     late e x i = ⊎_elim (λ k. absurd (omega (arith, later e x i, (h x i).1 k))) (λ k. k) (cases_Bool (K x))
 
 module _ (g : Graph) (es : List ℕ) (fw : Forward g) (bs : Bounds g es) (v : ℕ) (small : v < tasks g) where
-  -- the turn whose set is the cluster
-  pub record Chosen : Type 0 where
-    pub turns : ℕ
-    pub few : turns ≤ v
-    pub is : others g es v ≡ grown g es v turns
-    pub attains : reach g es v (grown g es v turns) ≡ bound es v
-    pub earliest : (k : ℕ) → k < turns → reach g es v (grown g es v k) ≡ bound es v → ⊥
-
-  pub chosen : Chosen
-  chosen = record {
-    turns = e.0;
-    few = omega (arith, e.2, a.1);
-    is = earliest_set_is g es v v 0 e.0 e.1 (omega (arith, e.2, a.1)) e.3 e.4;
-    attains = e.3;
-    earliest = λ k l. e.4 k (omega arith) l;
-  }
-    where
-      a : (j : ℕ) × (j ≤ v) × (reach g es v (grown g es v j) ≡ least_reach g es v v)
-      a = least_attained g es v v
-
-      same : least_reach g es v v ≡ bound es v
-      same = least_one g es v (least_reach g es v v) (bound es v) (growth_least g es v fw) (bs.least v small)
-
-      e : (i : ℕ) × (0 ≤ i) × (i ≤ a.0) × Attains g es v i × ((h : ℕ) → 0 ≤ h → h < i → Attains g es v h → ⊥)
-      e = earliest_turn g es v v 0 a.0 (omega arith) (omega (arith, a.1)) (a.2 ∙ same)
-
-  others_reach : reach g es v (others g es v) ≡ bound es v
-  others_reach = ap (reach g es v) chosen.is ∙ chosen.attains
-
-  pub run_fits : run g es v (others g es v) ≤ bound es v
-  run_fits = omega (arith, others_reach)
-
   pub arrival_fits : (a : Arc) → Contains g.arcs a → cluster g es v a.second ≡ true → cluster g es v a.first ≡ false
       → arrival g es a ≤ bound es v
-  arrival_fits a h e f = omega (arith, others_reach, front_high g es (cluster g es v) a h (enters_from (cluster g es v) a e f))
+  arrival_fits a h e f = omega (arith, others_reach g es fw bs v small, front_high g es (cluster g es v) a h (enters_from (cluster g es v) a e f))
 
   -- the cluster runs its other tasks in order, and then v
   pub members_are : members g es v ≡ filter (others g es v) (order es v) ++ v ∷ []
@@ -173,7 +176,7 @@ growth_attains_the_least_lem g es fw = (
       (grown_ancestors g es v fw k) in
       record {
         turns = c.turns;
-        is = ap (λ K. with K v) c.is;
+        is = cluster_is g es fw bs v small;
         attains = c.attains;
         earliest = λ k l. ⊎_elim (λ e. absurd (c.earliest k l e)) (λ ne. omega (arith, least k, ne))
             (cases_eq (reach g es v (grown g es v k)) (bound es v));

@@ -4,7 +4,7 @@ use Rattle.std.proofs.Common.{◌≡◌, ℕ, zero, suc, ◌+◌, ◌*◌, ◌<�
 use native.Mathlib.Nat.{le-max_left, le-max_right}
 use Rattle.std.specs.List.{Contains}
 use Rattle.std.proofs.lemmas.List.{get_or_append_left, get_or_push, length_push}
-use Rattle.std.proofs.lemmas.Bool.{cases_eq, cond_both, cond-false}
+use Rattle.std.proofs.lemmas.Bool.{cases_eq, cond_both}
 use Rattle.schedule.specs.declared.Arc.{Arc}
 use Rattle.schedule.specs.Graph.{Forward, Graph, duration, tasks}
 use Rattle.schedule.specs.Bounds.{Bounds, Set, after, bound, order, run, run_from}
@@ -17,7 +17,7 @@ use Rattle.schedule.proofs.Inputs.{inputs_fit}
 use Rattle.schedule.proofs.Lists.{has_here, has_there}
 use Rattle.schedule.proofs.Multiples.{mul-max}
 use Rattle.schedule.proofs.RunningOrder.{order_below}
-use Rattle.schedule.proofs.Runs.{after_in}
+use Rattle.schedule.proofs.Runs.{after_in, after_out}
 use Rattle.schedule.proofs.Sets.{with_old, with_self}
 
 -- when v has ended at its home
@@ -69,7 +69,7 @@ compare g es C K hs c s (w ∷ ws) h t u l =
     (subst (λ x. c * (starts g C hs t w + duration g w) ≤ c * x + s) (sym (after_in g es K u w e))
     (step c s t u (inputs C hs w g.arcs) (bound es w) (duration g w) l (h w (has_here w ws) e))))
     (λ e. compare g es C K hs c s ws rest t (after g es K u w)
-    (subst (λ x. c * t ≤ c * x + s) (sym (cond-false (K w) (max u (bound es w) + duration g w) u e)) l))
+    (subst (λ x. c * t ≤ c * x + s) (sym (after_out g es K u w e)) l))
   where
     rest : (z : ℕ) → Contains ws z → K z ≡ true → c * inputs C hs z g.arcs ≤ c * bound es z + s
     rest z i = h z (has_there w z ws i)

@@ -3,8 +3,9 @@ use Rattle.std.proofs.Common.{◌≡◌, ℕ, ◌+◌, ◌*◌, ◌≤◌, false
 use Rattle.std.specs.List.{Contains}
 use Rattle.std.proofs.lemmas.Bool.{and_from, and_parts, cond_both, cond-true, eq-eqb, eqb-true, not_from_false, not-true}
 use Rattle.schedule.specs.declared.Arc.{Arc}
+use Rattle.schedule.specs.Graph.{Graph}
 use Rattle.schedule.specs.Bounds.{Set}
-use Rattle.schedule.specs.Plan.{input, inputs}
+use Rattle.schedule.specs.Plan.{input, inputs, starts}
 use Rattle.schedule.proofs.Lists.{each_more, has_here, has_there}
 use Rattle.schedule.proofs.Multiples.{mul-max}
 
@@ -41,3 +42,14 @@ module _ (C : Set) (hs : List ℕ) (w : ℕ) where
       each_more (λ b. b.second ≡ w → C b.first ≡ false → get_or hs b.first 0 + b.delay ≤ m) a rest
       (λ e f. omega (arith, h, input_in a e f))
       (inputs_all m rest (omega (arith, h)))
+
+  -- A copy starts no sooner than its processor is free, no sooner than its inputs have come, and as soon as both are so.
+  module _ (g : Graph) (t : ℕ) where
+    pub starts_free : t ≤ starts g C hs t w
+    starts_free = omega arith
+
+    pub starts_fed : inputs C hs w g.arcs ≤ starts g C hs t w
+    starts_fed = omega arith
+
+    pub starts_soon : (m : ℕ) → t ≤ m → inputs C hs w g.arcs ≤ m → starts g C hs t w ≤ m
+    starts_soon m f l = omega arith

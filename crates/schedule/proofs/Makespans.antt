@@ -1,5 +1,5 @@
 -- The makespan is the least tick by which each end task has a row that has ended.
-use Rattle.std.proofs.Common.{◌≡◌, ℕ, zero, suc, ◌*◌, ◌<◌, ◌≤◌, min, true, cond, eqb, List, [], ◌∷◌, Some, None, Option, sym, refl, ap, ◌∙◌, subst, ⊎_elim, arith}
+use Rattle.std.proofs.Common.{◌≡◌, ℕ, zero, suc, ◌*◌, ◌<◌, ◌≤◌, true, cond, eqb, List, [], ◌∷◌, Some, None, Option, sym, refl, ap, ◌∙◌, subst, ⊎_elim, arith}
 use Rattle.std.specs.List.{Contains}
 use Rattle.std.proofs.lemmas.List.Elements.{Contains-get_or}
 use Rattle.std.proofs.lemmas.Bool.{cases_eq, cases_lt, cond_both, cond-true, eqb-false, eqb-true}
@@ -38,9 +38,9 @@ module _ (g : Graph) (t : ℕ) where
       (λ l. record { row = s; has = has_here s rows; of = e; ends = omega (arith, l); none_sooner = sooner })
       (cases_lt n (end g s))
     where
-      sooner : (r : Row) → Contains (s ∷ rows) r → r.task ≡ t → min (end g s) n ≤ end g r
+      sooner : (r : Row) → Contains (s ∷ rows) r → r.task ≡ t → or_zero (earlier (end g s) (Some n)) ≤ end g r
       sooner =
-          each_more (λ r. r.task ≡ t → min (end g s) n ≤ end g r) s rows (λ _. omega arith)
+          each_more (λ r. r.task ≡ t → or_zero (earlier (end g s) (Some n)) ≤ end g r) s rows (λ _. omega arith)
           (λ r i p. omega (arith, h.none_sooner r i p))
 
   earliest_pass : (s : Row) (rows : List Row) → (s.task ≡ t → ⊥) → (o : Option ℕ) → Earliest rows o → Earliest (s ∷ rows) o
@@ -69,6 +69,14 @@ module _ (g : Graph) (t : ℕ) where
       go (Some n) h = h
 
 module _ (g : Graph) (rows : List Row) where
+  -- c times the span is at most what c times each end task's first end is
+  pub span_low : (c m n : ℕ) → ((k : ℕ) → k < n → is_end g k ≡ true → c * or_zero (earliest g k rows) ≤ m) → c * span g rows n ≤ m
+  span_low c m zero f = omega arith
+  span_low c m (suc n) f =
+      mul-max c (span g rows n) (cond (is_end g n) (or_zero (earliest g n rows)) 0) m
+      (span_low c m n (λ k l e. f k (omega (arith, l)) e))
+      (cond_both (is_end g n) (or_zero (earliest g n rows)) 0 (λ x. c * x ≤ m) (λ e. f n (omega arith) e) (λ _. omega arith))
+
   -- no end task ends first after the span
   pub span_high : (n k : ℕ) → k < n → is_end g k ≡ true → or_zero (earliest g k rows) ≤ span g rows n
   span_high zero k l e = absurd (omega arith)
@@ -78,13 +86,6 @@ module _ (g : Graph) (rows : List Row) where
       (omega (arith, cond-true (is_end g n) (or_zero (earliest g n rows)) 0 (subst (λ x. is_end g x ≡ true) p e))))
       (λ np. omega (arith, span_high n k (omega (arith, l, np)) e))
       (cases_eq k n)
-
-  pub span_low : (c m n : ℕ) → ((k : ℕ) → k < n → is_end g k ≡ true → c * or_zero (earliest g k rows) ≤ m) → c * span g rows n ≤ m
-  span_low c m zero f = omega arith
-  span_low c m (suc n) f =
-      mul-max c (span g rows n) (cond (is_end g n) (or_zero (earliest g n rows)) 0) m
-      (span_low c m n (λ k l e. f k (omega (arith, l)) e))
-      (cond_both (is_end g n) (or_zero (earliest g n rows)) 0 (λ x. c * x ≤ m) (λ e. f n (omega arith) e) (λ _. omega arith))
 
 pub makespan_is_least_lem : MakespanIsLeast
 makespan_is_least_lem g rows valid m = (down, up)

@@ -13,12 +13,11 @@ use Rattle.schedule.specs.Laws.{Before, Home}
 use Rattle.schedule.specs.Plan.{home_rows, homes, marks, members, plan}
 use Rattle.schedule.specs.Theorems.{PlanIsValid}
 use Rattle.schedule.proofs.BoundsRise.{arc_bound}
-use Rattle.schedule.proofs.Homes.{home_end, homes_at}
-use Rattle.schedule.proofs.Inputs.{inputs_all}
-use Rattle.schedule.proofs.Lists.{pairs_cases, read_at}
-use Rattle.schedule.proofs.Marks.{arc_from, mark_below, marked_end, marked_feeds, marks_below}
-use Rattle.schedule.proofs.ProcessorRows.{Follows, HomeRow, InTurn, has_members, home_last, home_pairs, home_row, members_in, rows_has, rows_homed, rows_in_turn, timed_has}
-use Rattle.schedule.proofs.RunningOrder.{before_one_way, before_other}
+use Rattle.schedule.proofs.Homes.{home_end}
+use Rattle.schedule.proofs.Lists.{read_at}
+use Rattle.schedule.proofs.Marks.{arc_from, marked_end, marked_feeds, marks_below}
+use Rattle.schedule.proofs.ProcessorRows.{Follows, InTurn, at_home, ended_before, from_home, has_members, home_last, home_row, host, host_marked, hosted, input_below, input_come, members_in, rows_in_turn, timed_has}
+use Rattle.schedule.proofs.RunningOrder.{before_other}
 
 pub plan_in_turn : (g : Graph) (es : List ℕ) (i j : ℕ) → i < j → j < length (plan g es) → InTurn g es (at (plan g es) i) (at (plan g es) j)
 plan_in_turn g es i j = rows_in_turn g es 0 (marks g es) i j no_row
@@ -33,46 +32,44 @@ module _ (g : Graph) (es : List ℕ) (fw : Forward g) (bs : Bounds g es) where
     pub ends : end g row ≡ home_end g es t
 
   pub own : (t : ℕ) → Contains (marks g es) t → Own t
-  own t j = record {
-    row = r.0;
-    planned = rows_has g es 0 (marks g es) j.0 r.0 j.1
-        (subst (λ x. Contains (home_rows g es (0 + j.0) x) r.0) (sym (read_at (marks g es) t 0 j)) r.1);
-    home = subst (Home g es t) {x = j.0} {y = r.0.processor} (omega (arith, (home_row g es (0 + j.0) t r.0 r.1).on))
-        (j.1, read_at (marks g es) t 0 j);
-    of = r.2;
-    ends = r.3;
-  }
+  own t j = record { row = r.0; planned = from_home g es t j.0 r.0 home r.1; home = there; of = r.2; ends = r.3 }
     where
-      r : (r : Row) × Contains (home_rows g es (0 + j.0) t) r × (r.task ≡ t) × (end g r ≡ home_end g es t)
-      r = home_last g es fw bs (0 + j.0) t (marks_below g es t j)
+      home : Home g es t j.0
+      home = (j.1, read_at (marks g es) t 0 j)
+
+      r : (r : Row) × Contains (home_rows g es j.0 t) r × (r.task ≡ t) × (end g r ≡ home_end g es t)
+      r = home_last g es fw bs j.0 t (marks_below g es t j)
+
+      there : Home g es t r.0.processor
+      there = subst (Home g es t) (sym (home_row g es j.0 t r.0 r.1).on) home
 
   -- what feeds a row
   abbrev Feeder : Arc → Row → Type 0
   Feeder a r = (s : Row) × Contains (plan g es) s × (s.task ≡ a.first) × InTime g a.delay s r
 
-  -- a row r of the i-th processor
-  module _ (i : ℕ) (l : i < length (marks g es)) (r : Row) (m : Contains (home_rows g es (0 + i) (get_or (marks g es) i 0)) r) where
+  -- a row r of the plan, on the home of v
+  module _ (r : Row) (planned : Contains (plan g es) r) where
     abbrev v : ℕ
-    v = get_or (marks g es) i 0
+    v = host g es r
 
     abbrev C : Set
     C = cluster g es v
 
-    abbrev timing : HomeRow g es (0 + i) v r
-    timing = home_row g es (0 + i) v r m
+    home : Home g es v r.processor
+    home = hosted g es r planned
 
-    row_below : r.task < suc v
-    row_below = (members_in g es v r.task timing.of).0
+    m : Contains (home_rows g es r.processor v) r
+    m = at_home g es v r planned home
 
-    row_known : r.task < tasks g
-    row_known = omega (arith, row_below, mark_below g es i l)
+    in_members : (r.task < suc v) × (C r.task ≡ true)
+    in_members = members_in g es v r.task (home_row g es r.processor v r m).of
 
     module _ (a : Arc) (h : Contains g.arcs a) (e : a.second ≡ r.task) where
       second_in : C a.second ≡ true
-      second_in = subst (λ x. C x ≡ true) (sym e) (members_in g es v r.task timing.of).1
+      second_in = subst (λ x. C x ≡ true) (sym e) in_members.1
 
       first_below : a.first < v
-      first_below = omega (arith, fw a h, e, row_below)
+      first_below = input_below g es fw r.processor v r m a h e
 
       in_order : Before es a.first r.task
       in_order =
@@ -86,57 +83,38 @@ module _ (g : Graph) (es : List ℕ) (fw : Forward g) (bs : Bounds g es) where
       inside : C a.first ≡ true → Feeder a r
       inside k = (
         s.0,
-        rows_has g es 0 (marks g es) i s.0 l s.1,
+        from_home g es v r.processor s.0 home s.1,
         s.2,
-        inl
-            ((home_row g es (0 + i) v s.0 s.1).on ∙ sym timing.on, before),
+        inl ((home_row g es r.processor v s.0 s.1).on, before),
       )
         where
-          s : (s : Row) × Contains (home_rows g es (0 + i) v) s × (s.task ≡ a.first)
+          s : (s : Row) × Contains (home_rows g es r.processor v) s × (s.task ≡ a.first)
           s =
-              timed_has g C (homes g es v) (0 + i) 0 a.first (members g es v)
+              timed_has g C (homes g es v) r.processor 0 a.first (members g es v)
               (has_members g es v a.first (omega (arith, first_below)) k)
 
           before : end g s.0 ≤ r.start
           before =
-              ⊎_elim
-              (λ p. absurd (before_other es a.first r.task in_order (sym s.2 ∙ ap (λ x. x.task) p)))
-              (λ q. ⊎_elim (λ x. x.0)
-              (λ x. absurd (before_one_way es a.first r.task in_order (subst (Before es r.task) s.2 x.1))) q)
-              (pairs_cases (Follows g (Before es)) (home_rows g es (0 + i) v) s.0 r (home_pairs g es (0 + i) v) s.1 m)
+              ended_before g es r.processor v s.0 r s.1 m (subst (λ x. Before es x r.task) (sym s.2) in_order)
 
       -- one from outside has come from its home, which is another processor
       outside : C a.first ≡ false → Feeder a r
       outside f = (o.row, o.planned, o.of, inr (elsewhere, late))
         where
           o : Own a.first
-          o = own a.first (marked_feeds g es fw v a.first (Contains-get_or (marks g es) i 0 l) (a, h, refl, second_in, f))
+          o = own a.first (marked_feeds g es fw v a.first (host_marked g es r planned) (a, h, refl, second_in, f))
 
           elsewhere : o.row.processor ≡ r.processor → ⊥
-          elsewhere p =
-              omega (
-                arith,
-                first_below,
-                sym o.home.1 ∙ ap (λ x. get_or (marks g es) x 0) {x = o.row.processor} {y = i}
-                    (omega (arith, p, timing.on)),
-              )
+          elsewhere p = omega (arith, first_below, sym o.home.1 ∙ ap (λ x. get_or (marks g es) x 0) p ∙ home.1)
 
           late : end g o.row + a.delay ≤ r.start
-          late = omega (
-            arith,
-            o.ends,
-            homes_at g es v a.first first_below,
-            inputs_all C (homes g es v) r.task r.start g.arcs timing.fed a h e f,
-          )
+          late = omega (arith, o.ends, input_come g es fw r.processor v r m a h e f)
 
       feeder : Feeder a r
       feeder = ⊎_elim inside outside (cases_Bool (C a.first))
 
   pub plan_known : (r : Row) → Contains (plan g es) r → r.task < tasks g
-  plan_known r i = let f = rows_homed g es 0 (marks g es) r i in row_known f.0 f.1 r f.2
-
-  plan_fed : (r : Row) → Contains (plan g es) r → (a : Arc) → Contains g.arcs a → a.second ≡ r.task → Feeder a r
-  plan_fed r i = let f = rows_homed g es 0 (marks g es) r i in feeder f.0 f.1 r f.2
+  plan_known r i = omega (arith, (in_members r i).0, marks_below g es (host g es r) (host_marked g es r i))
 
   -- a task is an end task, and has a home, or feeds a row of a higher task, and so has a row
   plan_complete : (n t : ℕ) → tasks g ≤ t + n → t < tasks g → (r : Row) × Contains (plan g es) r × (r.task ≡ t)
@@ -146,7 +124,7 @@ module _ (g : Graph) (es : List ℕ) (fw : Forward g) (bs : Bounds g es) where
       (λ e. let o = own t (marked_end g es t small e) in (o.row, o.planned, o.of))
       (λ e. let a = arc_from t g.arcs e in
       let r = plan_complete n a.0.second (omega (arith, h, fw a.0 a.1, a.2)) (fw a.0 a.1).1 in
-      let f = plan_fed r.0 r.1 a.0 a.1 (sym r.2) in
+      let f = feeder r.0 r.1 a.0 a.1 (sym r.2) in
       (f.0, f.1, f.2 ∙ a.2))
       (cases_Bool (is_end g t))
 
@@ -160,7 +138,7 @@ module _ (g : Graph) (es : List ℕ) (fw : Forward g) (bs : Bounds g es) where
     once = λ i j l m p e. before_other es (at (plan g es) i).task (at (plan g es) j).task (plan_follows i j l m p).1 e;
     apart = λ i j l m p. inl (plan_follows i j l m p).0;
     fed = λ i l a h e.
-        let f = plan_fed (at (plan g es) i) (Contains-get_or (plan g es) i no_row l) a h e in
+        let f = feeder (at (plan g es) i) (Contains-get_or (plan g es) i no_row l) a h e in
         let j = f.1 in (
           j.0,
           j.1,

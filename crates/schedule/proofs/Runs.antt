@@ -1,20 +1,24 @@
 -- The run of a set: it grows with the set, it ends no sooner than each member does alone, and no way to run the set on one processor,
 -- no task before its bound, ends sooner.
 use Rattle.std.proofs.Common.{◌≡◌, ℕ, ◌+◌, ◌<◌, ◌≤◌, max, Bool, true, false, cond, eqb, List, [], ◌∷◌, filter, sym, refl, ap, ◌∙◌, subst, inl, inr, ⊎_elim, arith}
-use Rattle.std.specs.List.{AllPairs, Contains}
+use Rattle.std.specs.List.{AllPairs, Contains, sum_by}
+use Rattle.std.proofs.lemmas.List.Sums.{sum_by-cons}
 use Rattle.std.proofs.lemmas.List.Kept.{AllPairs-filter}
-use Rattle.std.proofs.lemmas.Bool.{cases_eq, cond_both, cond-true, eq-eqb, ne_eqb}
+use Rattle.std.proofs.lemmas.Bool.{cases_eq, cond_both, cond-false, cond-true, eq-eqb, ne_eqb}
 use Rattle.schedule.specs.Graph.{Graph, duration}
 use Rattle.schedule.specs.Bounds.{Set, after, bound, order, run, run_from}
 use Rattle.schedule.specs.Laws.{Before, RunIsShortest, Separate, Singly}
 use Rattle.schedule.proofs.Lists.{each_more, has_cases, has_here, has_there, kept_has, pairs_first, pairs_rest, pairs_weaker}
-use Rattle.schedule.proofs.Packing.{packed, total}
+use Rattle.schedule.proofs.Packing.{packed}
 use Rattle.schedule.proofs.RunningOrder.{before_other, has_order, order_below, order_rises}
 use Rattle.schedule.proofs.Sets.{Within}
 
 module _ (g : Graph) (es : List ℕ) where
   pub after_in : (K : Set) (t u : ℕ) → K u ≡ true → after g es K t u ≡ max t (bound es u) + duration g u
   after_in K t u k = cond-true (K u) (max t (bound es u) + duration g u) t k
+
+  pub after_out : (K : Set) (t u : ℕ) → K u ≡ false → after g es K t u ≡ t
+  after_out K t u k = cond-false (K u) (max t (bound es u) + duration g u) t k
 
   after_low : (K : Set) (t u : ℕ) → t ≤ after g es K t u
   after_low K t u = cond_both (K u) (max t (bound es u) + duration g u) t (λ x. t ≤ x) (λ _. omega arith) (λ _. omega arith)
@@ -112,11 +116,12 @@ module _ (g : Graph) (es : List ℕ) where
   -- the tasks from each one on, run without a gap from its bound, have run by s
   abbrev Fits : ℕ → List ℕ → Type 0
   Fits s [] = Unit {0}
-  Fits s (u ∷ us) = (bound es u + total (duration g) (u ∷ us) ≤ s) × Fits s us
+  Fits s (u ∷ us) = (bound es u + sum_by (duration g) (u ∷ us) ≤ s) × Fits s us
 
-  run_all_by : (s t : ℕ) (ts : List ℕ) → t + total (duration g) ts ≤ s → Fits s ts → run_all t ts ≤ s
+  run_all_by : (s t : ℕ) (ts : List ℕ) → t + sum_by (duration g) ts ≤ s → Fits s ts → run_all t ts ≤ s
   run_all_by s t [] l h = omega arith
-  run_all_by s t (u ∷ us) l h = run_all_by s (max t (bound es u) + duration g u) us (omega (arith, h.0)) h.1
+  run_all_by s t (u ∷ us) l h =
+      run_all_by s (max t (bound es u) + duration g u) us (omega (arith, l, h.0, sum_by-cons (duration g) u us)) h.1
 
   -- runs of ts, in running order, that start no earlier than the bounds, end by s and are apart
   record Kept (start : ℕ → ℕ) (s : ℕ) (ts : List ℕ) : Type 0 where

@@ -1,5 +1,5 @@
 -- For graphs within the limits every number that the planner computes is small.
-use Rattle.std.proofs.Common.{◌≡◌, ℕ, zero, suc, ◌+◌, ◌*◌, ◌<◌, ◌≤◌, max, true, List, [], ◌∷◌, length, get_or, refl, ap, ⊎_elim, arith}
+use Rattle.std.proofs.Common.{◌≡◌, ℕ, zero, suc, ◌+◌, ◌*◌, ◌<◌, ◌≤◌, max, true, List, [], ◌∷◌, length, refl, ap, ⊎_elim, arith}
 use Rattle.std.specs.List.{Contains}
 use Rattle.std.proofs.lemmas.List.{get_or_past, length-append}
 use Rattle.std.proofs.lemmas.List.Sums.{count_by-le-length, length-filter}
@@ -17,10 +17,10 @@ use Rattle.schedule.proofs.Fronts.{front_low}
 use Rattle.schedule.proofs.Homes.{home_end, home_timely, homes_at}
 use Rattle.schedule.proofs.Lists.{has_here, has_there}
 use Rattle.schedule.proofs.Makespans.{span_low}
-use Rattle.schedule.proofs.Marks.{length_marked, mark_below, marks_below}
+use Rattle.schedule.proofs.Marks.{length_marked, marks_below}
 use Rattle.schedule.proofs.PlanShort.{ends_by_home}
 use Rattle.schedule.proofs.PlanValid.{plan_known}
-use Rattle.schedule.proofs.ProcessorRows.{home_row, rows_homed}
+use Rattle.schedule.proofs.ProcessorRows.{at_home, home_row, host, host_marked, hosted}
 use Rattle.schedule.proofs.RunningOrder.{length-order, order_below}
 use Rattle.schedule.proofs.Sets.{enters_parts, with_cases}
 
@@ -120,13 +120,16 @@ module _ (g : Graph) (es : List ℕ) (fw : Forward g) (small : Small g) where
 
     row_fits : (r : Row) → Contains (plan g es) r → (r.processor < 256) × (r.task < 256) × (end g r ≤ 1_021_000_000)
     row_fits r h =
-        let f = rows_homed g es 0 (marks g es) r h in
-        let v : ℕ = get_or (marks g es) f.0 0 in
-        let k = home_row g es (0 + f.0) v r f.2 in (
-          omega (arith, k.on, f.1, length_marked g es (tasks g), small.few),
-          omega (arith, plan_known g es fw bs r h, small.few),
-          omega (arith, k.by, home_most v (mark_below g es f.0 f.1)),
+        let v : ℕ = host g es r in
+        let home = hosted g es r h in
+        let small : v < tasks g = marks_below g es v (host_marked g es r h) in (
+          omega (arith, home.0, length_marked g es (tasks g), few),
+          omega (arith, plan_known g es fw bs r h, few),
+          omega (arith, (home_row g es r.processor v r (at_home g es v r h home)).by, home_most v small),
         )
+      where
+        few : tasks g ≤ 256
+        few = small.few
 
     plan_fits : PlanFits g es
     plan_fits = record {

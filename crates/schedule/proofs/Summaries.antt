@@ -5,7 +5,7 @@ use Rattle.segment_tree.specs.RunSummaries.{makes_run, no_run, run_read}
 use Rattle.schedule.specs.Graph.{Graph, duration}
 use Rattle.schedule.specs.Bounds.{Set, after, bound, run_from}
 use Rattle.schedule.specs.Summaries.{RunsAreJoinedSummaries, Summarised, summary, summed, work_of}
-use Rattle.schedule.proofs.Runs.{after_in, run_low}
+use Rattle.schedule.proofs.Runs.{after_in, after_out, run_low}
 
 module _ (g : Graph) (es : List ℕ) (K : Set) where
   -- a run from tick t on: all its work after t, or its end from 0 on, whichever is later
@@ -16,11 +16,8 @@ module _ (g : Graph) (es : List ℕ) (K : Set) where
       let early = run_from_tick (after g es K 0 u) us in
       ⊎_elim
       (λ k. omega (arith, late, early, after_in g es K t u k, after_in g es K 0 u k, cond-true (K u) (duration g u) 0 k))
-      (λ k. omega (arith, late, early, out t k, out 0 k, cond-false (K u) (duration g u) 0 k))
+      (λ k. omega (arith, late, early, after_out g es K t u k, after_out g es K 0 u k, cond-false (K u) (duration g u) 0 k))
       (cases_Bool (K u))
-    where
-      out : (t : ℕ) → K u ≡ false → after g es K t u ≡ t
-      out t k = cond-false (K u) (max t (bound es u) + duration g u) t k
 
   -- numbers that make a summary are those of the summary
   read_numbers : (work finish : ℕ) → work ≤ finish → finish ≤ 4_000_000_000
@@ -53,7 +50,7 @@ module _ (g : Graph) (es : List ℕ) (K : Set) where
       let r = run_from_tick (after g es K 0 u) us in
       let w = cond-true (K u) (duration g u) 0 k in
       (omega (arith, s, ih, w, r, a, l), omega (arith, s, ih, r, a, l)))
-      (λ k. let a = cond-false (K u) (max 0 (bound es u) + duration g u) 0 k in
+      (λ k. let a = after_out g es K 0 u k in
       let s = summary_out u k in
       let r = run_from_tick (after g es K 0 u) us in
       let w = cond-false (K u) (duration g u) 0 k in

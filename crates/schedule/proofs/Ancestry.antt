@@ -1,10 +1,10 @@
 -- Ancestors: they have lower numbers, and a test tells who is one.
-use Rattle.std.proofs.Common.{◌≡◌, ℕ, zero, suc, ◌<◌, Bool, true, false, ◌&&◌, ◌||◌, eqb, refl, sym, ap, ◌∙◌, inl, inr, arith}
-use Rattle.std.specs.List.{Any, Contains, list_any}
+use Rattle.std.proofs.Common.{◌≡◌, ℕ, zero, suc, ◌<◌, Bool, true, false, ◌&&◌, ◌||◌, eqb, refl, sym, ◌∙◌, inl, inr, arith}
+use Rattle.std.specs.List.{Contains, list_any}
 use Rattle.std.proofs.lemmas.Bool.{and_from, and_parts, both_ways, eq-eqb, eqb-true, or_cases, or_left, or_right}
-use Rattle.std.proofs.lemmas.List.Folds.{Any-from_list_any, list_any_at}
 use Rattle.schedule.specs.declared.Arc.{Arc}
 use Rattle.schedule.specs.Graph.{Ancestor, Forward, Graph, by_arc, through}
+use Rattle.schedule.proofs.Lists.{any_has, has_any}
 
 pub ancestor_below : (g : Graph) → Forward g → {u v : ℕ} → Ancestor g u v → u < v
 ancestor_below g fw (by_arc a h p q) = omega (arith, (fw a h).0)
@@ -27,21 +27,18 @@ pub leads_sound : (g : Graph) (u n v : ℕ) → leads_to g u n v ≡ true → An
 unfolding leads_to
 leads_sound g u zero v h = absurd (both_ways false refl h)
 leads_sound g u (suc n) v h =
-    let s : Any (λ a. leads (leads_to g u n) u v a ≡ true) g.arcs = Any-from_list_any (leads (leads_to g u n) u v) g.arcs h in
-    let a : Arc = s.1 in
-    let i : Contains g.arcs a = (s.0, s.2, s.3) in
-    let p = and_parts (eqb a.second v) (eqb a.first u || leads_to g u n a.first) s.4 in
+    let s = any_has (leads (leads_to g u n) u v) g.arcs h in
+    let a : Arc = s.0 in
+    let p = and_parts (eqb a.second v) (eqb a.first u || leads_to g u n a.first) s.2 in
     elim (or_cases (eqb a.first u) (leads_to g u n a.first) p.1) [
-      | inl e ↦ by_arc a i (eqb-true a.first u e) (eqb-true a.second v p.0)
-      | inr e ↦ through a i (leads_sound g u n a.first e) (eqb-true a.second v p.0)
+      | inl e ↦ by_arc a s.1 (eqb-true a.first u e) (eqb-true a.second v p.0)
+      | inr e ↦ through a s.1 (leads_sound g u n a.first e) (eqb-true a.second v p.0)
     ]
 
 -- an arc of the graph that leads passes the test
 leads_by : (g : Graph) (u n v : ℕ) (a : Arc) → Contains g.arcs a → leads (leads_to g u n) u v a ≡ true → leads_to g u (suc n) v ≡ true
 unfolding leads_to
-leads_by g u n v a h t =
-    let q : Arc → Bool = leads (leads_to g u n) u v in
-    list_any_at q g.arcs h.0 a h.1 (ap q h.2 ∙ t)
+leads_by g u n v a h t = has_any (leads (leads_to g u n) u v) g.arcs a h t
 
 pub leads_complete : (g : Graph) → Forward g → (u n v : ℕ) → v < n → Ancestor g u v → leads_to g u n v ≡ true
 leads_complete g fw u zero v l r = absurd (omega arith)

@@ -1,7 +1,6 @@
 -- Every forward graph has bounds, as growth finds them task by task, and only one list of them.
-use Rattle.std.proofs.Common.{◌≡◌, ℕ, zero, suc, ◌<◌, List, [], ◌∷◌, ◌++◌, length, sym, refl, ◌∙◌, subst, ⊎_elim, arith}
+use Rattle.std.proofs.Common.{◌≡◌, ℕ, zero, suc, ◌<◌, List, [], ◌∷◌, ◌++◌, length, sym, refl, ◌∙◌, subst, arith, below_more}
 use Rattle.std.proofs.lemmas.List.{ext_get_or, get_or_append_left, get_or_push, length_push}
-use Rattle.std.proofs.lemmas.Bool.{cases_eq}
 use Rattle.schedule.specs.Graph.{Forward, Graph, tasks}
 use Rattle.schedule.specs.Bounds.{Bounds, BoundsTo, Least, bound}
 use Rattle.schedule.specs.Growth.{found_bound, found_bounds}
@@ -13,14 +12,12 @@ module _ (g : Graph) (fw : Forward g) where
   -- a list of bounds, and one more that was found with it
   bounds_more : (es : List ℕ) (v b : ℕ) → length es ≡ v → BoundsTo g es v → Least g es v b → BoundsTo g (es ++ b ∷ []) (suc v)
   bounds_more es v b len each here u l =
-      ⊎_elim
-      (λ p. subst (λ x. Least g (es ++ b ∷ []) x (bound (es ++ b ∷ []) x)) (sym p)
+      below_more (λ w. Least g (es ++ b ∷ []) w (bound (es ++ b ∷ []) w)) v
+      (λ w m. subst (Least g (es ++ b ∷ []) w) (sym (old w m))
+      (least_agrees es (es ++ b ∷ []) g fw w (λ x n. sym (old x (omega (arith, m, n)))) (bound es w) (each w m)))
       (subst (Least g (es ++ b ∷ []) v) (sym (get_or_push es b 0 v len))
-      (least_agrees es (es ++ b ∷ []) g fw v (λ w m. sym (old w m)) b here)))
-      (λ np. let m : u < v = omega (arith, l, np) in
-      subst (Least g (es ++ b ∷ []) u) (sym (old u m))
-      (least_agrees es (es ++ b ∷ []) g fw u (λ w n. sym (old w (omega (arith, m, n)))) (bound es u) (each u m)))
-      (cases_eq u v)
+      (least_agrees es (es ++ b ∷ []) g fw v (λ w m. sym (old w m)) b here))
+      u (omega (arith, l))
     where
       old : (w : ℕ) → w < v → bound (es ++ b ∷ []) w ≡ bound es w
       old w m = get_or_append_left es (b ∷ []) 0 w (omega (arith, len, m))
@@ -43,11 +40,9 @@ module _ (g : Graph) (fw : Forward g) where
   bounds_agree es fs zero b c u l = absurd (omega arith)
   bounds_agree es fs (suc n) b c u l =
       let lower : Agree es fs n = bounds_agree es fs n (λ w m. b w (omega (arith, m))) (λ w m. c w (omega (arith, m))) in
-      ⊎_elim
-      (λ p. subst (λ x. bound es x ≡ bound fs x) (sym p)
-      (least_one g fs n (bound es n) (bound fs n) (least_agrees es fs g fw n lower (bound es n) (b n (omega arith))) (c n (omega arith))))
-      (λ np. lower u (omega (arith, l, np)))
-      (cases_eq u n)
+      below_more (λ w. bound es w ≡ bound fs w) n lower
+      (least_one g fs n (bound es n) (bound fs n) (least_agrees es fs g fw n lower (bound es n) (b n (omega arith))) (c n (omega arith)))
+      u (omega (arith, l))
 
   bounds_unique : (es fs : List ℕ) → Bounds g es → Bounds g fs → es ≡ fs
   bounds_unique es fs b c =

@@ -1,7 +1,7 @@
 -- The cluster of a task: the task itself, and ancestors whose reach is the task's bound. The task runs last in it.
 use Rattle.std.proofs.Common.{◌≡◌, ℕ, zero, suc, ◌+◌, ◌<◌, ◌≤◌, true, false, ◌||◌, eqb, ◌⊎◌, List, [], ◌∷◌, ◌++◌, filter, sym, refl, ap, ◌∙◌, subst, inl, inr, ⊎_elim, arith}
 use Rattle.std.specs.List.{AllPairs, Contains}
-use Rattle.std.proofs.lemmas.Bool.{cases_Bool, cases_eq, cond_both, cond-false, cond-true, eq-eqb, ltb-true, ne_eqb}
+use Rattle.std.proofs.lemmas.Bool.{cases_Bool, cases_eq, cond_both, cond-false, cond-true, eq-eqb, false_from_ne_true, ltb-true, ne_eqb}
 use Rattle.schedule.specs.declared.Arc.{Arc}
 use Rattle.schedule.specs.Graph.{Ancestor, Forward, Graph, tasks}
 use Rattle.schedule.specs.Bounds.{Ancestors, Bounds, Set, arrival, bound, order, placed, reach, run, sooner, with}
@@ -143,7 +143,7 @@ kept_placed es C K v (u ∷ us) c h s =
         each_more (λ x. bound es v < bound es x) u us k (λ x j. omega (arith, k, pairs_first (Before es) u us s x j))
 
     late : sooner es v u ≡ true → (x : ℕ) → Contains (u ∷ us) x → K x ≡ false
-    late e x i = ⊎_elim (λ k. absurd (omega (arith, later e x i, (h x i).1 k))) (λ k. k) (cases_Bool (K x))
+    late e x i = false_from_ne_true (K x) (λ k. omega (arith, later e x i, (h x i).1 k))
 
 module _ (g : Graph) (es : List ℕ) (fw : Forward g) (bs : Bounds g es) (v : ℕ) (small : v < tasks g) where
   pub arrival_fits : (a : Arc) → Contains g.arcs a → cluster g es v a.second ≡ true → cluster g es v a.first ≡ false

@@ -1,6 +1,6 @@
 -- Growth attains the least reach over all sets of ancestors, and ends within as many turns as there are tasks below.
 use Rattle.std.proofs.Common.{◌≡◌, ℕ, zero, suc, ◌<◌, ◌≤◌, true, false, ◌⊎◌, List, sym, refl, ap, ◌∙◌, subst, inl, inr, ⊎_elim, add-one, arith}
-use Rattle.std.proofs.lemmas.Bool.{both_ways, cases_Bool, cases_eq, cases_lt, cond-false, cond-true, false≢true, le-ltb, lt-ltb, ltb-false, ltb-true}
+use Rattle.std.proofs.lemmas.Bool.{both_ways, cases_Bool, cases_eq, cases_lt, cond-false, cond-true, false_from_ne_true, false≢true, le-ltb, lt-ltb, ltb-false, ltb-true, true_from_ne_false}
 use Rattle.schedule.specs.Graph.{Ancestor, Forward, Graph, by_arc}
 use Rattle.schedule.specs.Bounds.{Ancestors, Least, Set, front, order, reach, run, with}
 use Rattle.schedule.specs.Growth.{found_bound, goes_on, grown, least_reach, next, none, turn}
@@ -48,8 +48,7 @@ module _ (g : Graph) (es : List ℕ) (v : ℕ) where
 
   open_before : (k : ℕ) → Open (grown g es v (suc k)) → Open (grown g es v k)
   open_before k o =
-      ⊎_elim (λ p. p) (λ s. absurd (both_ways (goes_on g es v (grown g es v (suc k))) (shut_stays k s) o))
-      (cases_Bool (goes_on g es v (grown g es v k)))
+      true_from_ne_false (goes_on g es v (grown g es v k)) (λ s. both_ways (goes_on g es v (grown g es v (suc k))) (shut_stays k s) o)
 
   -- the least reach of the turns up to k is attained by one of them, and none is below it
   pub least_attained : (k : ℕ) → (j : ℕ) × (j ≤ k) × (reach g es v (grown g es v j) ≡ least_reach g es v k)
@@ -115,7 +114,7 @@ module _ (g : Graph) (es : List ℕ) (v : ℕ) where
     open_few k o = omega (arith, tally_most (grown g es v (suc k)) v, tally_open k o, grown_many k o)
 
     pub growth_ends : Shut (grown g es v v)
-    growth_ends = ⊎_elim (λ o. absurd (omega (arith, open_few v o))) (λ s. s) (cases_Bool (goes_on g es v (grown g es v v)))
+    growth_ends = false_from_ne_true (goes_on g es v (grown g es v v)) (λ o. omega (arith, open_few v o))
 
     -- a set that leaves out what growth adds at a turn has no lesser reach than growth's set of that turn
     left_out : (K L : Set) → Open K → Within K L → L (added K) ≡ false → reach g es v K ≤ reach g es v L

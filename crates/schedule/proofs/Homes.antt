@@ -1,10 +1,10 @@
 -- How late the plan has run a task at its home, by the graph's grain: the processor of a cluster is compared, task by task, with the
 -- run by the bounds alone.
-use Rattle.std.proofs.Common.{◌≡◌, ℕ, zero, suc, ◌+◌, ◌*◌, ◌<◌, ◌≤◌, max, true, false, List, [], ◌∷◌, ◌++◌, length, get_or, filter, sym, refl, ap, ◌∙◌, subst, ⊎_elim, mul-le-mul_left, arith}
-use native.Mathlib.Nat.{le-max_left, le-max_right}
+use Rattle.std.proofs.Common.{◌≡◌, ℕ, zero, suc, ◌+◌, ◌*◌, ◌<◌, ◌≤◌, max, true, false, List, [], ◌∷◌, ◌++◌, length, get_or, filter, sym, refl, ap, ◌∙◌, subst, mul-le-mul_left, arith, below_more}
+use Rattle.std.proofs.Math.Nat.{le-max_left, le-max_right}
 use Rattle.std.specs.List.{Contains}
 use Rattle.std.proofs.lemmas.List.{get_or_append_left, get_or_push, length_push}
-use Rattle.std.proofs.lemmas.Bool.{cases_eq, cond_both}
+use Rattle.std.proofs.lemmas.Bool.{cond_both}
 use Rattle.schedule.specs.declared.Arc.{Arc}
 use Rattle.schedule.specs.Graph.{Forward, Graph, duration, tasks}
 use Rattle.schedule.specs.Bounds.{Bounds, Set, after, bound, order, run, run_from}
@@ -31,12 +31,10 @@ length-homes g es (suc n) = omega (arith, length_push (homes g es n) (home_end g
 pub homes_at : (g : Graph) (es : List ℕ) (n u : ℕ) → u < n → get_or (homes g es n) u 0 ≡ home_end g es u
 homes_at g es zero u h = absurd (omega arith)
 homes_at g es (suc n) u h =
-    ⊎_elim
-    (λ p. subst (λ x. get_or (homes g es (suc n)) x 0 ≡ home_end g es x) (sym p)
-    (get_or_push (homes g es n) (home_end g es n) 0 n (length-homes g es n)))
-    (λ ne. get_or_append_left (homes g es n) (home_end g es n ∷ []) 0 u (omega (arith, length-homes g es n, h, ne)) ∙ homes_at g es n u
-    (omega (arith, h, ne)))
-    (cases_eq u n)
+    below_more (λ w. get_or (homes g es (suc n)) w 0 ≡ home_end g es w) n
+    (λ w l. get_or_append_left (homes g es n) (home_end g es n ∷ []) 0 w (omega (arith, length-homes g es n, l)) ∙ homes_at g es n w l)
+    (get_or_push (homes g es n) (home_end g es n) 0 n (length-homes g es n))
+    u (omega (arith, h))
 
 -- one task more on both clocks
 step : (c s t u i e d : ℕ) → c * t ≤ c * u + s → c * i ≤ c * e + s → c * (max t i + d) ≤ c * (max u e + d) + s
@@ -127,10 +125,8 @@ module _ (g : Graph) (es : List ℕ) (fw : Forward g) (bs : Bounds g es) (p q : 
   homes_timely : (n : ℕ) → n ≤ tasks g → (u : ℕ) → u < n → Timely u
   homes_timely zero h u l = absurd (omega arith)
   homes_timely (suc n) h u l =
-      ⊎_elim
-      (λ e. subst Timely (sym e) (home_step n (omega (arith, h)) (homes_timely n (omega (arith, h)))))
-      (λ ne. homes_timely n (omega (arith, h)) u (omega (arith, l, ne)))
-      (cases_eq u n)
+      let lower : (w : ℕ) → w < n → Timely w = homes_timely n (omega (arith, h)) in
+      below_more Timely n lower (home_step n (omega (arith, h)) lower) u (omega (arith, l))
 
   pub home_timely : (v : ℕ) → v < tasks g → (p + q) * home_end g es v ≤ (p + 2 * q) * bound es v + (p + q) * duration g v
   home_timely v small = homes_timely (tasks g) (omega arith) v small

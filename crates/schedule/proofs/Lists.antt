@@ -1,10 +1,11 @@
--- Lists: who stands in one, and what holds between each element and each later one. The library has the lemmas on the end of a list, on
--- two lists in a row and on what a filter keeps; here are those that go from the front.
+-- Lists: who stands in one, and what holds between each element and each later one. The library says who stands in a list that was made
+-- longer at its end; the lists here go from the front.
 use Rattle.std.proofs.Common.{◌≡◌, ℕ, zero, suc, ◌<◌, ◌≤◌, Bool, true, ◌⊎◌, List, [], ◌∷◌, ◌++◌, map, length, get_or, filter, sym, ap, ◌∙◌, subst, subst₂, inl, inr, ⊎_elim, arith}
-use Rattle.std.specs.List.{AllPairs, Contains}
+use Rattle.std.specs.List.{AllPairs, Contains, list_any}
 use Rattle.std.proofs.lemmas.Bool.{both_ways, cases_order, cond_both}
 use Rattle.std.proofs.lemmas.List.{get_or-map, get_or_default, length-map}
 use Rattle.std.proofs.lemmas.List.Elements.{All-contains, All-contains_itself, All-filter, Contains-append_cases, Contains-append_right, Contains-get_or, filter_passes}
+use Rattle.std.proofs.lemmas.List.Folds.{Any-from_list_any, list_any_at}
 use Rattle.std.proofs.lemmas.List.Kept.{AllPairs-cons}
 
 module _ {X : Type 0} where
@@ -29,6 +30,7 @@ module _ {X : Type 0} where
   pub read_at : (xs : List X) (x d : X) (h : Contains xs x) → get_or xs h.0 d ≡ x
   read_at xs x d h = get_or_default xs h.0 d x h.1 ∙ h.2
 
+  -- the library says what holds of the elements that a filter keeps, and not that those that pass are kept
   pub has_kept : (C : X → Bool) (x : X) (xs : List X) → C x ≡ true → Contains xs x → Contains (filter C xs) x
   has_kept C x [] c h = h
   has_kept C x (y ∷ ys) c h =
@@ -43,6 +45,15 @@ module _ {X : Type 0} where
     All-contains (Contains xs) (filter C xs) x (All-filter C (Contains xs) xs (All-contains_itself xs)) h,
   )
 
+  -- some element passes a test: what the library says of places, said of elements
+  pub any_has : (q : X → Bool) (xs : List X) → list_any q xs ≡ true → (x : X) × Contains xs x × (q x ≡ true)
+  any_has q xs e = let s = Any-from_list_any q xs e in (s.1, (s.0, s.2, s.3), s.4)
+
+  pub has_any : (q : X → Bool) (xs : List X) (x : X) → Contains xs x → q x ≡ true → list_any q xs ≡ true
+  has_any q xs x i e = list_any_at q xs i.0 x i.1 (ap q i.2 ∙ e)
+
+  -- R holds between each element and each later one: the library has such lists with one element more in front, and filtered; here are the
+  -- first element and the rest, and two lists in a row.
   module _ (R : X → X → Type 0) where
     pub pairs_short : (xs : List X) → length xs ≤ 1 → AllPairs R xs
     pairs_short xs h i j d l m = absurd (omega (arith, h, l, m))
@@ -77,6 +88,7 @@ module _ {X : Type 0} where
         go (inr (inl l)) = inr (inl (subst₂ R i.2 (read_at xs y x j) (h i.0 j.0 x l j.1)))
         go (inr (inr l)) = inr (inr (subst₂ R (read_at xs y x j) i.2 (h j.0 i.0 x l i.1)))
 
+-- the library says what is read from a mapped list, and not who stands in it
 pub has_map : {X Y : Type 0} (f : Y → X) (ys : List Y) (y : Y) → Contains ys y → Contains (map f ys) (f y)
 has_map f ys y h =
     (h.0, omega (arith, h.1, length-map ys f), get_or-map f ys h.0 y (f y) h.1 ∙ ap f h.2)

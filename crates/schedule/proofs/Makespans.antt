@@ -1,11 +1,12 @@
 -- The makespan is the least tick by which each end task has a row that has ended.
-use Rattle.std.proofs.Common.{◌≡◌, ℕ, zero, suc, ◌*◌, ◌<◌, ◌≤◌, true, cond, eqb, List, [], ◌∷◌, Some, None, Option, sym, refl, ap, ◌∙◌, subst, ⊎_elim, arith}
+use Rattle.std.proofs.Common.{◌≡◌, ℕ, zero, suc, ◌*◌, ◌<◌, ◌≤◌, true, cond, eqb, List, [], ◌∷◌, Some, None, Option, sym, refl, ap, ◌∙◌, subst, ⊎_elim, arith, below_more}
 use Rattle.std.specs.List.{Contains}
+use Rattle.std.specs.Option.{unwrap_or}
 use Rattle.std.proofs.lemmas.List.Elements.{Contains-get_or}
-use Rattle.std.proofs.lemmas.Bool.{cases_eq, cases_lt, cond_both, cond-true, eqb-false, eqb-true}
+use Rattle.std.proofs.lemmas.Bool.{cases_lt, cond_both, cond-true, eqb-false, eqb-true}
 use Rattle.schedule.specs.declared.Row.{Row}
 use Rattle.schedule.specs.Graph.{Graph, is_end, tasks}
-use Rattle.schedule.specs.Schedule.{at, earlier, earliest, end, makespan, no_row, or_zero, span}
+use Rattle.schedule.specs.Schedule.{at, earlier, earliest, end, makespan, no_row, span}
 use Rattle.schedule.specs.Laws.{EndedBy, MakespanIsLeast}
 use Rattle.schedule.proofs.Lists.{each_more, has_here, has_there, read_at}
 use Rattle.schedule.proofs.Multiples.{mul-max}
@@ -38,9 +39,9 @@ module _ (g : Graph) (t : ℕ) where
       (λ l. record { row = s; has = has_here s rows; of = e; ends = omega (arith, l); none_sooner = sooner })
       (cases_lt n (end g s))
     where
-      sooner : (r : Row) → Contains (s ∷ rows) r → r.task ≡ t → or_zero (earlier (end g s) (Some n)) ≤ end g r
+      sooner : (r : Row) → Contains (s ∷ rows) r → r.task ≡ t → unwrap_or (earlier (end g s) (Some n)) 0 ≤ end g r
       sooner =
-          each_more (λ r. r.task ≡ t → or_zero (earlier (end g s) (Some n)) ≤ end g r) s rows (λ _. omega arith)
+          each_more (λ r. r.task ≡ t → unwrap_or (earlier (end g s) (Some n)) 0 ≤ end g r) s rows (λ _. omega arith)
           (λ r i p. omega (arith, h.none_sooner r i p))
 
   earliest_pass : (s : Row) (rows : List Row) → (s.task ≡ t → ⊥) → (o : Option ℕ) → Earliest rows o → Earliest (s ∷ rows) o
@@ -61,36 +62,35 @@ module _ (g : Graph) (t : ℕ) where
       (λ e. earliest_pass s rows (eqb-false s.task t e) (earliest g t rows) (earliest_is rows))
 
   -- a task that has a row ends first by some row, and by no row sooner
-  pub first_end : (rows : List Row) (r : Row) → Contains rows r → r.task ≡ t → First rows (or_zero (earliest g t rows))
+  pub first_end : (rows : List Row) (r : Row) → Contains rows r → r.task ≡ t → First rows (unwrap_or (earliest g t rows) 0)
   first_end rows r i e = go (earliest g t rows) (earliest_is rows)
     where
-      go : (o : Option ℕ) → Earliest rows o → First rows (or_zero o)
+      go : (o : Option ℕ) → Earliest rows o → First rows (unwrap_or o 0)
       go None h = absurd (h r i e)
       go (Some n) h = h
 
 module _ (g : Graph) (rows : List Row) where
   -- c times the span is at most what c times each end task's first end is
-  pub span_low : (c m n : ℕ) → ((k : ℕ) → k < n → is_end g k ≡ true → c * or_zero (earliest g k rows) ≤ m) → c * span g rows n ≤ m
+  pub span_low : (c m n : ℕ) → ((k : ℕ) → k < n → is_end g k ≡ true → c * unwrap_or (earliest g k rows) 0 ≤ m) → c * span g rows n ≤ m
   span_low c m zero f = omega arith
   span_low c m (suc n) f =
-      mul-max c (span g rows n) (cond (is_end g n) (or_zero (earliest g n rows)) 0) m
+      mul-max c (span g rows n) (cond (is_end g n) (unwrap_or (earliest g n rows) 0) 0) m
       (span_low c m n (λ k l e. f k (omega (arith, l)) e))
-      (cond_both (is_end g n) (or_zero (earliest g n rows)) 0 (λ x. c * x ≤ m) (λ e. f n (omega arith) e) (λ _. omega arith))
+      (cond_both (is_end g n) (unwrap_or (earliest g n rows) 0) 0 (λ x. c * x ≤ m) (λ e. f n (omega arith) e) (λ _. omega arith))
 
   -- no end task ends first after the span
-  pub span_high : (n k : ℕ) → k < n → is_end g k ≡ true → or_zero (earliest g k rows) ≤ span g rows n
-  span_high zero k l e = absurd (omega arith)
-  span_high (suc n) k l e =
-      ⊎_elim
-      (λ p. subst (λ x. or_zero (earliest g x rows) ≤ span g rows (suc n)) (sym p)
-      (omega (arith, cond-true (is_end g n) (or_zero (earliest g n rows)) 0 (subst (λ x. is_end g x ≡ true) p e))))
-      (λ np. omega (arith, span_high n k (omega (arith, l, np)) e))
-      (cases_eq k n)
+  pub span_high : (n k : ℕ) → k < n → is_end g k ≡ true → unwrap_or (earliest g k rows) 0 ≤ span g rows n
+  span_high zero k l = absurd (omega (arith, l))
+  span_high (suc n) k l =
+      below_more (λ t. is_end g t ≡ true → unwrap_or (earliest g t rows) 0 ≤ span g rows (suc n)) n
+      (λ t m e. omega (arith, span_high n t m e))
+      (λ e. omega (arith, cond-true (is_end g n) (unwrap_or (earliest g n rows) 0) 0 e))
+      k (omega (arith, l))
 
 pub makespan_is_least_lem : MakespanIsLeast
 makespan_is_least_lem g rows valid m = (down, up)
   where
-    first : (t : ℕ) → t < tasks g → First g t rows (or_zero (earliest g t rows))
+    first : (t : ℕ) → t < tasks g → First g t rows (unwrap_or (earliest g t rows) 0)
     first t l =
         let c = valid.complete t l in
         first_end g t rows (at rows c.0) (Contains-get_or rows c.0 no_row c.1) c.2

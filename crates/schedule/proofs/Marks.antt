@@ -1,78 +1,48 @@
 -- Which clusters run: those of the end tasks, and of every task that feeds a cluster that runs.
-use Rattle.std.proofs.Common.{◌≡◌, ℕ, zero, suc, ◌+◌, ◌-◌, ◌<◌, ◌≤◌, Bool, true, false, cond, not, ◌&&◌, eqb, ◌⊎◌, List, [], ◌∷◌, length, get_or, sym, refl, subst, inl, inr, ⊎_elim, arith}
-use Rattle.std.specs.List.{AllPairs, Contains}
+use Rattle.std.proofs.Common.{◌≡◌, ℕ, zero, suc, ◌+◌, ◌-◌, ◌<◌, ◌≤◌, Bool, true, false, cond, not, ◌&&◌, eqb, ◌⊎◌, List, [], ◌∷◌, length, get_or, sym, subst, inl, inr, ⊎_elim, arith}
+use Rattle.std.specs.List.{AllPairs, Contains, list_any}
 use Rattle.std.proofs.lemmas.List.Elements.{Contains-append_cases, Contains-append_left, Contains-append_right, Contains-get_or}
 use Rattle.std.proofs.lemmas.List.{length-append}
-use Rattle.std.proofs.lemmas.Bool.{and_cases, and_from, and_parts, both_ways, cases_Bool, cases_eq, cond_both, cond-true, eq-eqb, eqb-false, eqb-true, not-false, not_from_false, not-true, or_cases, or_left, or_right}
+use Rattle.std.proofs.lemmas.Bool.{and_from, and_parts, both_ways, cases_eq, cond_both, cond-true, eq-eqb, eqb-true, not-false, not_from_false, not-true, or_cases, or_left, or_right, true_from_ne_false}
 use Rattle.schedule.specs.declared.Arc.{Arc}
-use Rattle.schedule.specs.Graph.{Forward, Graph, is_end, none_from, tasks}
+use Rattle.schedule.specs.Graph.{Forward, Graph, is_end, tasks}
 use Rattle.schedule.specs.Bounds.{Set}
 use Rattle.schedule.specs.Growth.{cluster}
 use Rattle.schedule.specs.Laws.{EndsHaveNoArcOut, Feeds, MarksAreNeeded}
 use Rattle.schedule.specs.Plan.{feeds, feeds_any, is_marked, marked, marks}
 use Rattle.schedule.proofs.Clusters.{cluster_most}
-use Rattle.schedule.proofs.Lists.{each_more, has_cases, has_here, has_there, pairs-append, pairs_short}
+use Rattle.schedule.proofs.Lists.{any_has, has_any, has_cases, has_here, pairs-append, pairs_short}
 
 -- a task with an outgoing arc
-pub arc_from : (t : ℕ) (arcs : List Arc) → none_from t arcs ≡ false → (a : Arc) × Contains arcs a × (a.first ≡ t)
-arc_from t [] e = absurd (both_ways true e refl)
-arc_from t (a ∷ rest) e =
-    ⊎_elim
-    (λ f. (a, has_here a rest, eqb-true a.first t (not-false (eqb a.first t) f)))
-    (λ f. let r = arc_from t rest f in (r.0, has_there a r.0 rest r.1, r.2))
-    (and_cases (not (eqb a.first t)) (none_from t rest) e)
-
-none_from_all : (t : ℕ) (arcs : List Arc) → none_from t arcs ≡ true → (a : Arc) → Contains arcs a → a.first ≡ t → ⊥
-none_from_all t [] e = λ a i. absurd (omega (arith, i.1))
-none_from_all t (a ∷ rest) e =
-    let p = and_parts (not (eqb a.first t)) (none_from t rest) e in
-    each_more (λ b. b.first ≡ t → ⊥) a rest (eqb-false a.first t (not-true (eqb a.first t) p.0)) (none_from_all t rest p.1)
+pub arc_from : (g : Graph) (t : ℕ) → is_end g t ≡ false → (a : Arc) × Contains g.arcs a × (a.first ≡ t)
+arc_from g t e =
+    let s = any_has (λ a. eqb a.first t) g.arcs (not-false (list_any (λ a. eqb a.first t) g.arcs) e) in
+    (s.0, s.1, eqb-true s.0.first t s.2)
 
 pub ends_have_no_arc_out_lem : EndsHaveNoArcOut
 ends_have_no_arc_out_lem g t = (
-  (λ e. none_from_all t g.arcs e),
-  λ f. ⊎_elim (λ e. e) (λ e. let a = arc_from t g.arcs e in absurd (f a.0 a.1 a.2)) (cases_Bool (is_end g t)),
+  (λ e a i p. both_ways (list_any (λ a. eqb a.first t) g.arcs) (not-true (list_any (λ a. eqb a.first t) g.arcs) e)
+      (has_any (λ a. eqb a.first t) g.arcs a i (eq-eqb a.first t p))),
+  λ f. true_from_ne_false (is_end g t) (λ e. let a = arc_from g t e in f a.0 a.1 a.2),
 )
 
 -- the test of feeding finds every arc that feeds, and no other
 feeds_by : (C : Set) (u : ℕ) (arcs : List Arc) → feeds C u arcs ≡ true
     → (a : Arc) × Contains arcs a × (a.first ≡ u) × (C a.second ≡ true) × (C u ≡ false)
-feeds_by C u [] h = absurd (both_ways false refl h)
-feeds_by C u (a ∷ rest) h =
-    ⊎_elim
-    (λ e. let p = and_parts (eqb a.first u) (C a.second && not (C u)) e in
+feeds_by C u arcs h =
+    let s = any_has (λ a. eqb a.first u && (C a.second && not (C u))) arcs h in
+    let a : Arc = s.0 in
+    let p = and_parts (eqb a.first u) (C a.second && not (C u)) s.2 in
     let q = and_parts (C a.second) (not (C u)) p.1 in
-    (a, has_here a rest, eqb-true a.first u p.0, q.0, not-true (C u) q.1))
-    (λ e. let r = feeds_by C u rest e in (r.0, has_there a r.0 rest r.1, r.2, r.3, r.4))
-    (or_cases (eqb a.first u && (C a.second && not (C u))) (feeds C u rest) h)
+    (a, s.1, eqb-true a.first u p.0, q.0, not-true (C u) q.1)
 
 feeds_from : (C : Set) (u : ℕ) (arcs : List Arc) (a : Arc) → Contains arcs a → a.first ≡ u → C a.second ≡ true → C u ≡ false
     → feeds C u arcs ≡ true
-feeds_from C u [] = λ a i. absurd (omega (arith, i.1))
-feeds_from C u (b ∷ rest) =
-    each_more (λ a. a.first ≡ u → C a.second ≡ true → C u ≡ false → feeds C u (b ∷ rest) ≡ true) b rest
-    (λ e c f. or_left (eqb b.first u && (C b.second && not (C u))) (feeds C u rest)
-    (and_from (eqb b.first u) (C b.second && not (C u)) (eq-eqb b.first u e) (and_from (C b.second) (not (C u)) c (not_from_false (C u) f))))
-    (λ a i e c f. or_right (eqb b.first u && (C b.second && not (C u))) (feeds C u rest) (feeds_from C u rest a i e c f))
+feeds_from C u arcs a i e c f =
+    has_any (λ a. eqb a.first u && (C a.second && not (C u))) arcs a i
+    (and_from (eqb a.first u) (C a.second && not (C u)) (eq-eqb a.first u e) (and_from (C a.second) (not (C u)) c (not_from_false (C u) f)))
 
 module _ (g : Graph) (es : List ℕ) where
-  feeds_any_from : (u v : ℕ) (vs : List ℕ) → Contains vs v → feeds (cluster g es v) u g.arcs ≡ true → feeds_any g es u vs ≡ true
-  feeds_any_from u v [] i h = absurd (omega (arith, i.1))
-  feeds_any_from u v (w ∷ vs) i h =
-      ⊎_elim
-      (λ e. or_left (feeds (cluster g es w) u g.arcs) (feeds_any g es u vs)
-      (subst (λ x. feeds (cluster g es x) u g.arcs ≡ true) (sym e) h))
-      (λ j. or_right (feeds (cluster g es w) u g.arcs) (feeds_any g es u vs) (feeds_any_from u v vs j h))
-      (has_cases w v vs i)
-
-  feeds_any_by : (u : ℕ) (vs : List ℕ) → feeds_any g es u vs ≡ true → (v : ℕ) × Contains vs v × (feeds (cluster g es v) u g.arcs ≡ true)
-  feeds_any_by u [] h = absurd (both_ways false refl h)
-  feeds_any_by u (v ∷ vs) h =
-      ⊎_elim
-      (λ e. (v, has_here v vs, e))
-      (λ e. let r = feeds_any_by u vs e in (r.0, has_there v r.0 vs r.1, r.2))
-      (or_cases (feeds (cluster g es v) u g.arcs) (feeds_any g es u vs) h)
-
   -- whether the task that is k-th from the end, counted from 0, is marked
   abbrev chosen : ℕ → Bool
   chosen k = is_marked g es (marked g es k) (tasks g - suc k)
@@ -155,7 +125,8 @@ module _ (g : Graph) (es : List ℕ) where
     pub marked_feeds : (v u : ℕ) → Contains (marks g es) v → Feeds g es v u → Contains (marks g es) u
     marked_feeds v u i f =
         mark_task u (omega (arith, low, small)) (or_right (is_end g u) (feeds_any g es u (marked g es k))
-        (feeds_any_from u v (marked g es k) (marked_early v k (tasks g) (omega arith) (omega arith) (omega (arith, low, small)) i)
+        (has_any (λ w. feeds (cluster g es w) u g.arcs) (marked g es k) v
+        (marked_early v k (tasks g) (omega arith) (omega arith) (omega (arith, low, small)) i)
         (feeds_from (cluster g es v) u g.arcs f.0 f.1 f.2 f.3 f.4)))
       where
         k : ℕ
@@ -176,7 +147,7 @@ module _ (g : Graph) (es : List ℕ) where
         (λ i. let n = newly_is k u i in
         ⊎_elim
         (λ e. inl (subst (λ x. is_end g x ≡ true) (sym n.1) e))
-        (λ e. let a = feeds_any_by (tasks g - suc k) (marked g es k) e in
+        (λ e. let a = any_has (λ w. feeds (cluster g es w) (tasks g - suc k) g.arcs) (marked g es k) e in
         inr (
           a.0,
           marked_stays a.0 k (tasks g) (omega (arith, l)) a.1,

@@ -58,18 +58,18 @@ module _ (g : Graph) (es : List ℕ) (fw : Forward g) (bs : Bounds g es) where
     home : Home g es v r.processor
     home = hosted g es r planned
 
-    m : Contains (home_rows g es r.processor v) r
-    m = at_home g es v r planned home
+    here : Contains (home_rows g es r.processor v) r
+    here = at_home g es v r planned home
 
     in_members : (r.task < suc v) × (C r.task ≡ true)
-    in_members = members_in g es v r.task (home_row g es r.processor v r m).of
+    in_members = members_in g es v r.task (home_row g es r.processor v r here).of
 
     module _ (a : Arc) (h : Contains g.arcs a) (e : a.second ≡ r.task) where
       second_in : C a.second ≡ true
       second_in = subst (λ x. C x ≡ true) (sym e) in_members.1
 
       first_below : a.first < v
-      first_below = input_below g es fw r.processor v r m a h e
+      first_below = input_below g es fw r.processor v r here a h e
 
       in_order : Before es a.first r.task
       in_order =
@@ -95,7 +95,7 @@ module _ (g : Graph) (es : List ℕ) (fw : Forward g) (bs : Bounds g es) where
 
           before : end g s.0 ≤ r.start
           before =
-              ended_before g es r.processor v s.0 r s.1 m (subst (λ x. Before es x r.task) (sym s.2) in_order)
+              ended_before g es r.processor v s.0 r s.1 here (subst (λ x. Before es x r.task) (sym s.2) in_order)
 
       -- one from outside has come from its home, which is another processor
       outside : C a.first ≡ false → Feeder a r
@@ -108,7 +108,7 @@ module _ (g : Graph) (es : List ℕ) (fw : Forward g) (bs : Bounds g es) where
           elsewhere p = omega (arith, first_below, sym o.home.1 ∙ ap (λ x. get_or (marks g es) x 0) p ∙ home.1)
 
           late : end g o.row + a.delay ≤ r.start
-          late = omega (arith, o.ends, input_come g es fw r.processor v r m a h e f)
+          late = omega (arith, o.ends, input_come g es fw r.processor v r here a h e f)
 
       feeder : Feeder a r
       feeder = ⊎_elim inside outside (cases_Bool (C a.first))
@@ -122,7 +122,7 @@ module _ (g : Graph) (es : List ℕ) (fw : Forward g) (bs : Bounds g es) where
   plan_complete (suc n) t h small =
       ⊎_elim
       (λ e. let o = own t (marked_end g es t small e) in (o.row, o.planned, o.of))
-      (λ e. let a = arc_from t g.arcs e in
+      (λ e. let a = arc_from g t e in
       let r = plan_complete n a.0.second (omega (arith, h, fw a.0 a.1, a.2)) (fw a.0 a.1).1 in
       let f = feeder r.0 r.1 a.0 a.1 (sym r.2) in
       (f.0, f.1, f.2 ∙ a.2))

@@ -93,8 +93,7 @@ module _ (g : Graph) (C : Set) (hs : List ℕ) (p : ℕ) where
   timed_last t (x ∷ ws) v =
       let f = timed_last (freed t x) ws v in (
         f.0,
-        has_there (copy t x) f.0 (timed g C hs p (freed t x) (ws ++ v ∷ []))
-            f.1,
+        has_there (copy t x) f.0 (timed g C hs p (freed t x) (ws ++ v ∷ [])) f.1,
         f.2,
         f.3,
       )
@@ -161,8 +160,7 @@ module _ (g : Graph) (es : List ℕ) where
       (λ j. let f = rows_homed (suc p) vs r j in (
         suc f.0,
         omega (arith, f.1),
-        subst
-            (λ x. Contains (home_rows g es x (get_or vs f.0 0)) r) {x = suc p + f.0} {y = p + suc f.0} (omega arith) f.2,
+        subst (λ x. Contains (home_rows g es x (get_or vs f.0 0)) r) {x = suc p + f.0} {y = p + suc f.0} (omega arith) f.2,
       ))
       (Contains-append_cases (home_rows g es p v) (rows_from g es (suc p) vs) r h)
 

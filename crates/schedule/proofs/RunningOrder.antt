@@ -1,5 +1,5 @@
 -- The running order has each task below n, and rises by bound, then number.
-use Rattle.std.proofs.Common.{◌≡◌, ℕ, zero, suc, ◌<◌, ◌≤◌, ◌⊎◌, List, [], ◌∷◌, length, sym, refl, ap, subst, inl, inr, ⊎_elim, arith}
+use Rattle.std.proofs.Common.{◌≡◌, ℕ, zero, suc, ◌<◌, ◌≤◌, ◌⊎◌, List, [], ◌∷◌, length, refl, ap, subst, inl, inr, ⊎_elim, arith, below_more}
 use Rattle.std.specs.List.{AllPairs, Contains}
 use Rattle.std.proofs.lemmas.Bool.{cases_eq, cond_both, ltb-false, ltb-true}
 use Rattle.schedule.specs.Bounds.{bound, order, placed, sooner}
@@ -45,10 +45,8 @@ module _ (es : List ℕ) where
   has_order zero x h = absurd (omega arith)
   has_order (suc n) x h =
       has_placed n x (order es n)
-      (⊎_elim
-      (λ e. subst (Contains (n ∷ order es n)) (sym e) (has_here n (order es n)))
-      (λ ne. has_there n x (order es n) (has_order n x (omega arith)))
-      (cases_eq x n))
+      (below_more (Contains (n ∷ order es n)) n (λ w l. has_there n w (order es n) (has_order n w l)) (has_here n (order es n)) x
+      (omega (arith, h)))
 
   pairs_placed : (t : ℕ) (us : List ℕ) → ((u : ℕ) → Contains us u → u < t) → AllPairs (Before es) us → AllPairs (Before es) (placed es t us)
   pairs_placed t [] l h = pairs_short (Before es) (t ∷ []) (omega arith)

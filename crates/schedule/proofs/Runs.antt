@@ -5,10 +5,11 @@ use Rattle.std.specs.List.{AllPairs, Contains, sum_by}
 use Rattle.std.proofs.lemmas.List.Sums.{sum_by-cons}
 use Rattle.std.proofs.lemmas.List.Kept.{AllPairs-filter}
 use Rattle.std.proofs.lemmas.Bool.{cases_eq, cond_both, cond-false, cond-true, eq-eqb, ne_eqb}
+use Rattle.std.proofs.lemmas.Map.Made.{Contains-tail}
 use Rattle.schedule.specs.Graph.{Graph, duration}
 use Rattle.schedule.specs.Bounds.{Set, after, bound, order, run, run_from}
 use Rattle.schedule.specs.Laws.{Before, RunIsShortest, Separate, Singly}
-use Rattle.schedule.proofs.Lists.{each_more, has_cases, has_here, has_there, kept_has, pairs_first, pairs_rest, pairs_weaker}
+use Rattle.schedule.proofs.Lists.{each_more, has_here, has_there, kept_has, pairs_first, pairs_rest, pairs_weaker}
 use Rattle.schedule.proofs.Packing.{packed}
 use Rattle.schedule.proofs.RunningOrder.{before_other, has_order, order_below, order_rises}
 use Rattle.schedule.proofs.Sets.{Within}
@@ -66,7 +67,7 @@ module _ (g : Graph) (es : List ℕ) where
       (sym e) (after_in K t u k) in
       (omega (arith, c), omega (arith, c), omega (arith, c, l, a)))
       (λ ne. let c = clock_there K t w ws u ne in
-      let r = runs K (after g es K t w) ws u (⊎_elim (λ e. absurd (ne e)) (λ m. m) (has_cases w u ws h)) k in
+      let r = runs K (after g es K t w) ws u (Contains-tail w ws u ne h) k in
       (omega (arith, c, r.0, after_low K t w), omega (arith, c, r.1), omega (arith, c, r.2)))
       (cases_eq w u)
 
@@ -79,19 +80,16 @@ module _ (g : Graph) (es : List ℕ) where
   clocks_apart K t [] x y i j k l ne = absurd (omega (arith, i.1))
   clocks_apart K t (w ∷ ws) x y i j k l ne =
       ⊎_elim
-      (λ e. inl (first x y k e (λ f. ne (sym e ∙ f)) (tail y j (λ f. ne (sym e ∙ f))) l))
+      (λ e. inl (first x y k e (λ f. ne (sym e ∙ f)) (Contains-tail w ws y (λ f. ne (sym e ∙ f)) j) l))
       (λ nx. ⊎_elim
-      (λ e. inr (first y x l e nx (tail x i nx) k))
-      (λ ny. let r = clocks_apart K (after g es K t w) ws x y (tail x i nx) (tail y j ny) k l ne in
+      (λ e. inr (first y x l e nx (Contains-tail w ws x nx i) k))
+      (λ ny. let r = clocks_apart K (after g es K t w) ws x y (Contains-tail w ws x nx i) (Contains-tail w ws y ny j) k l ne in
       let p = clock_there K t w ws x nx in
       let q = clock_there K t w ws y ny in
       ⊎_elim (λ h. inl (omega (arith, p, q, h))) (λ h. inr (omega (arith, p, q, h))) r)
       (cases_eq w y))
       (cases_eq w x)
     where
-      tail : (z : ℕ) → Contains (w ∷ ws) z → (w ≡ z → ⊥) → Contains ws z
-      tail z h nz = ⊎_elim (λ e. absurd (nz e)) (λ m. m) (has_cases w z ws h)
-
       first : (x y : ℕ) → K x ≡ true → w ≡ x → (w ≡ y → ⊥) → Contains ws y → K y ≡ true
           → clock K t (w ∷ ws) x + duration g x ≤ clock K t (w ∷ ws) y
       first x y k e ny m l =

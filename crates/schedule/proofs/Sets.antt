@@ -36,7 +36,7 @@ enters_parts K a e = let p = and_parts (K a.second) (not (K a.first)) e in (p.0,
 abbrev bit : Bool → ℕ
 bit b = cond b 1 0
 
--- how many of the tasks below n are in K
+-- how many of the tasks below n are in K; the library counts in lists
 abbrev pub tally : Set → ℕ → ℕ
 tally K zero = 0
 tally K (suc n) = bit (K n) + tally K n

@@ -1,6 +1,6 @@
 -- The front of a set, and the task that growth adds, are what joined best arrivals say, so a segment tree with a leaf for each task keeps
 -- them.
-use Rattle.std.specs.Prelude.{◌≡◌, ℕ, ◌<◌, ◌≤◌, cond, ◌&&◌, List, map, length, ◌==◌, slice_index_or}
+use Rattle.std.specs.Prelude.{◌≡◌, ℕ, ◌<◌, ◌≤◌, if◌then◌else◌, ◌&&◌, List, map, length, ◌==◌, slice_index_or}
 use Rattle.segment_tree.specs.BestArrivals.{best_arrivals, best_read, no_arrival}
 use Rattle.segment_tree.specs.Tree.{total}
 use Rattle.segment_tree.specs.declared.arrivals.BestArrival.{BestArrival}
@@ -11,7 +11,7 @@ use Rattle.schedule.specs.Growth.{next}
 
 -- the arrival by an arc, if it leads from u, outside S, to inside; the blank if not
 abbrev pub arrival_by : Graph → List ℕ → Set → ℕ → Arc → BestArrival
-arrival_by g es S u a = cond (a.first == u && enters S a) (best_read (record { arrival = arrival g es a; task = u })) no_arrival
+arrival_by g es S u a = if (a.first == u && enters S a) then best_read (record { arrival = arrival g es a; task = u }) else no_arrival
 
 -- the best arrival from u
 abbrev pub arrival_from : Graph → List ℕ → Set → ℕ → BestArrival

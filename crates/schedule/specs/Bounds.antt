@@ -1,6 +1,6 @@
 -- The bound of a task: how early it can start at all. The bounds of a graph are a list, by task number; what is said here of a task
 -- looks only at the bounds of tasks below it, so the bounds are fixed one after the other.
-use Rattle.std.specs.Prelude.{◌≡◌, ℕ, zero, suc, ◌+◌, ◌<◌, ◌≤◌, max, Bool, true, cond, not, ◌&&◌, ◌||◌, List, [], ◌∷◌, length, ◌==◌, nat_lt, slice_index}
+use Rattle.std.specs.Prelude.{◌≡◌, ℕ, zero, suc, ◌+◌, ◌<◌, ◌≤◌, max, Bool, true, if◌then◌else◌, not, ◌&&◌, ◌||◌, List, [], ◌∷◌, length, ◌==◌, nat_lt, slice_index}
 use Rattle.schedule.specs.declared.Arc.{Arc}
 use Rattle.schedule.specs.Graph.{Ancestor, Graph, duration, tasks}
 
@@ -21,7 +21,7 @@ sooner es t u = nat_lt (bound es t) (bound es u)
 -- task t, of higher number than all of us, put in before the first that it runs before
 abbrev pub placed : List ℕ → ℕ → List ℕ → List ℕ
 placed es t [] = t ∷ []
-placed es t (u ∷ us) = cond (sooner es t u) (t ∷ u ∷ us) (u ∷ placed es t us)
+placed es t (u ∷ us) = if sooner es t u then t ∷ u ∷ us else u ∷ placed es t us
 
 -- the tasks below n in running order: rising bound, and among equal bounds rising number
 abbrev pub order : List ℕ → ℕ → List ℕ
@@ -30,7 +30,7 @@ order es (suc n) = placed es n (order es n)
 
 -- when a run that has come to tick t is past task u: if u is in K, it runs as early as possible but not before its bound
 abbrev pub after : Graph → List ℕ → Set → ℕ → ℕ → ℕ
-after g es K t u = cond (K u) (max t (bound es u) + duration g u) t
+after g es K t u = if K u then max t (bound es u) + duration g u else t
 
 -- the end of running those of us that are in K singly, in their order, from tick t on
 abbrev pub run_from : Graph → List ℕ → Set → ℕ → List ℕ → ℕ
@@ -52,7 +52,7 @@ enters K a = K a.second && not (K a.first)
 -- the greatest arrival of those of the arcs that lead from outside K to inside, or 0
 abbrev pub latest : Graph → List ℕ → Set → List Arc → ℕ
 latest g es K [] = 0
-latest g es K (a ∷ rest) = max (cond (enters K a) (arrival g es a) 0) (latest g es K rest)
+latest g es K (a ∷ rest) = max (if enters K a then arrival g es a else 0) (latest g es K rest)
 
 -- The front of K: the greatest arrival of an arc from outside K to inside, or 0.
 abbrev pub front : Graph → List ℕ → Set → ℕ

@@ -1,6 +1,6 @@
 -- A task graph: how long each task runs, and which task needs what of which. Tasks go by number, counted from 0.
-use Rattle.std.specs.Prelude.{◌≡◌, ℕ, ◌<◌, Bool, true, not, ◌&&◌, List, [], ◌∷◌, length, ◌==◌, slice_index}
-use Rattle.std.specs.List.{Contains}
+use Rattle.std.specs.Prelude.{◌≡◌, ℕ, ◌<◌, Bool, not, List, length, ◌==◌, slice_index}
+use Rattle.std.specs.List.{Contains, list_any}
 use Rattle.schedule.specs.declared.Arc.{Arc}
 
 pub record Graph : Type 0 where
@@ -24,10 +24,6 @@ pub data Ancestor (g : Graph) : ℕ → ℕ → Type 0 where
   by_arc : {u v : ℕ} (a : Arc) → Contains g.arcs a → a.first ≡ u → a.second ≡ v → Ancestor g u v
   through : {u v : ℕ} (a : Arc) → Contains g.arcs a → Ancestor g u a.first → a.second ≡ v → Ancestor g u v
 
-abbrev pub none_from : ℕ → List Arc → Bool
-none_from t [] = true
-none_from t (a ∷ rest) = not (a.first == t) && none_from t rest
-
 -- whether t is an end task: no arc leads out of it
 abbrev pub is_end : Graph → ℕ → Bool
-is_end g t = none_from t g.arcs
+is_end g t = not (list_any (λ a. a.first == t) g.arcs)

@@ -1,5 +1,5 @@
 -- How the cluster of a task grows. The set that grows at v is held without v itself: all its tasks are ancestors of v.
-use Rattle.std.specs.Prelude.{ℕ, zero, suc, min, Bool, false, cond, ◌&&◌, List, [], ◌∷◌, ◌++◌, ◌==◌, nat_lt}
+use Rattle.std.specs.Prelude.{ℕ, zero, suc, min, Bool, false, if◌then◌else◌, ◌&&◌, List, [], ◌∷◌, ◌++◌, ◌==◌, nat_lt}
 use Rattle.schedule.specs.declared.Arc.{Arc}
 use Rattle.schedule.specs.Graph.{Graph, tasks}
 use Rattle.schedule.specs.Bounds.{Set, arrival, bound, enters, front, reach, run, with}
@@ -11,7 +11,7 @@ none u = false
 abbrev pub lowest : Graph → List ℕ → Set → ℕ → List Arc → ℕ
 lowest g es S f [] = tasks g
 lowest g es S f (a ∷ rest) =
-    cond (enters S a && arrival g es a == f) (min a.first (lowest g es S f rest)) (lowest g es S f rest)
+    if (enters S a && arrival g es a == f) then min a.first (lowest g es S f rest) else lowest g es S f rest
 
 -- the lowest first task of the arcs that enter S and whose arrival is its front
 abbrev pub next : Graph → List ℕ → Set → ℕ
@@ -23,7 +23,7 @@ goes_on g es v K = nat_lt (run g es v K) (front g es (with K v))
 
 -- a turn of growth at v: it adds a task while growth goes on
 abbrev pub turn : Graph → List ℕ → ℕ → Set → Set
-turn g es v K = cond (goes_on g es v K) (with K (next g es (with K v))) K
+turn g es v K = if goes_on g es v K then with K (next g es (with K v)) else K
 
 -- what growth at v has added to {v} after k turns
 abbrev pub grown : Graph → List ℕ → ℕ → ℕ → Set
@@ -48,7 +48,7 @@ found_bounds g (suc n) = found_bounds g n ++ found_bound g (found_bounds g n) n 
 abbrev pub earliest_set : Graph → List ℕ → ℕ → ℕ → ℕ → Set
 earliest_set g es v zero k = grown g es v k
 earliest_set g es v (suc n) k =
-    cond (reach g es v (grown g es v k) == bound es v) (grown g es v k) (earliest_set g es v n (suc k))
+    if reach g es v (grown g es v k) == bound es v then grown g es v k else earliest_set g es v n (suc k)
 
 -- The cluster of v: v, and the earliest set of growth whose reach is the bound of v.
 abbrev pub cluster : Graph → List ℕ → ℕ → Set

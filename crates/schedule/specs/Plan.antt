@@ -1,5 +1,6 @@
 -- The plan of a graph: which clusters run, on which processors, and when.
-use Rattle.std.specs.Prelude.{ℕ, zero, suc, ◌+◌, ◌-◌, max, Bool, false, cond, not, ◌&&◌, ◌||◌, List, [], ◌∷◌, ◌++◌, filter, ◌==◌, slice_index}
+use Rattle.std.specs.Prelude.{ℕ, zero, suc, ◌+◌, ◌-◌, max, Bool, if◌then◌else◌, not, ◌&&◌, ◌||◌, List, [], ◌∷◌, ◌++◌, filter, ◌==◌, slice_index}
+use Rattle.std.specs.List.{list_any}
 use Rattle.schedule.specs.declared.Arc.{Arc}
 use Rattle.schedule.specs.declared.Row.{Row}
 use Rattle.schedule.specs.Graph.{Graph, duration, is_end, tasks}
@@ -13,7 +14,7 @@ members g es v = filter (cluster g es v) (order es (suc v))
 -- when the input that an arc carries has come, if it leads from outside C to w: its first task u has ended at its home, at
 -- slice_index homes u, and then comes the delay; 0 if the arc leads elsewhere
 abbrev pub input : Set → List ℕ → ℕ → Arc → ℕ
-input C homes w a = cond (a.second == w && not (C a.first)) (slice_index homes a.first + a.delay) 0
+input C homes w a = if (a.second == w && not (C a.first)) then slice_index homes a.first + a.delay else 0
 
 -- when all inputs of w from outside C have come
 abbrev pub inputs : Set → List ℕ → ℕ → List Arc → ℕ
@@ -43,13 +44,11 @@ homes g es (suc v) = homes g es v ++ finish g (cluster g es v) (homes g es v) 0 
 
 -- whether an arc leads from u, outside C, into C
 abbrev pub feeds : Set → ℕ → List Arc → Bool
-feeds C u [] = false
-feeds C u (a ∷ rest) = (a.first == u && (C a.second && not (C u))) || feeds C u rest
+feeds C u arcs = list_any (λ a. a.first == u && (C a.second && not (C u))) arcs
 
 -- whether u feeds the cluster of one of vs
 abbrev pub feeds_any : Graph → List ℕ → ℕ → List ℕ → Bool
-feeds_any g es u [] = false
-feeds_any g es u (v ∷ vs) = feeds (cluster g es v) u g.arcs || feeds_any g es u vs
+feeds_any g es u vs = list_any (λ v. feeds (cluster g es v) u g.arcs) vs
 
 -- whether u becomes marked, if vs are the marked tasks above it
 abbrev pub is_marked : Graph → List ℕ → List ℕ → ℕ → Bool
@@ -58,7 +57,7 @@ is_marked g es vs u = is_end g u || feeds_any g es u vs
 -- the marked ones of the last k tasks, in falling order
 abbrev pub marked : Graph → List ℕ → ℕ → List ℕ
 marked g es zero = []
-marked g es (suc k) = marked g es k ++ cond (is_marked g es (marked g es k) (tasks g - suc k)) ((tasks g - suc k) ∷ []) []
+marked g es (suc k) = marked g es k ++ (if is_marked g es (marked g es k) (tasks g - suc k) then (tasks g - suc k) ∷ [] else [])
 
 -- all marked tasks, in falling order: the first has processor 0 for its home, the next processor 1
 abbrev pub marks : Graph → List ℕ → List ℕ

@@ -1,7 +1,8 @@
 -- Which lists of rows are valid schedules of a graph, and how long one takes. Processors and starts are any whole numbers from 0 on,
 -- so a statement about every valid schedule speaks of every number of processors and of any number of copies.
-use Rattle.std.specs.Prelude.{◌≡◌, ℕ, zero, suc, ◌+◌, ◌<◌, ◌≤◌, min, max, cond, ◌⊎◌, List, [], ◌∷◌, length, Some, None, Option, ◌==◌, ◌≢◌, slice_index_or}
+use Rattle.std.specs.Prelude.{◌≡◌, ℕ, zero, suc, ◌+◌, ◌<◌, ◌≤◌, min, max, if◌then◌else◌, ◌⊎◌, List, [], ◌∷◌, length, Some, None, Option, ◌==◌, ◌≢◌, slice_index_or}
 use Rattle.std.specs.List.{Contains}
+use Rattle.std.specs.Option.{unwrap_or}
 use Rattle.schedule.specs.declared.Arc.{Arc}
 use Rattle.schedule.specs.declared.Row.{Row}
 use Rattle.schedule.specs.Graph.{Graph, duration, is_end, tasks}
@@ -49,16 +50,12 @@ earlier n (Some m) = Some (min n m)
 -- the earliest end among the rows of task t
 abbrev pub earliest : Graph → ℕ → List Row → Option ℕ
 earliest g t [] = None
-earliest g t (r ∷ rows) = cond (r.task == t) (earlier (end g r) (earliest g t rows)) (earliest g t rows)
-
-abbrev pub or_zero : Option ℕ → ℕ
-or_zero None = 0
-or_zero (Some n) = n
+earliest g t (r ∷ rows) = if r.task == t then earlier (end g r) (earliest g t rows) else earliest g t rows
 
 -- the greatest, over the end tasks among the first k, of the earliest end among the task's rows
 abbrev pub span : Graph → List Row → ℕ → ℕ
 span g rows zero = 0
-span g rows (suc k) = max (span g rows k) (cond (is_end g k) (or_zero (earliest g k rows)) 0)
+span g rows (suc k) = max (span g rows k) (if is_end g k then unwrap_or (earliest g k rows) 0 else 0)
 
 -- The makespan, or length: the greatest, over all end tasks, of the earliest end among the task's rows; 0 with no tasks.
 abbrev pub makespan : Graph → List Row → ℕ

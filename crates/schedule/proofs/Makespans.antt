@@ -70,7 +70,7 @@ module _ (g : Graph) (t : ℕ) where
       go (Some n) h = h
 
 module _ (g : Graph) (rows : List Row) where
-  -- c times the span is at most what c times each end task's first end is
+  -- c times the span is at most m, if c times the first end of each end task is
   pub span_low : (c m n : ℕ) → ((k : ℕ) → k < n → is_end g k ≡ true → c * unwrap_or (earliest g k rows) 0 ≤ m) → c * span g rows n ≤ m
   span_low c m zero f = omega arith
   span_low c m (suc n) f =

@@ -91,12 +91,8 @@ module _ (g : Graph) (C : Set) (hs : List ℕ) (p : ℕ) where
       → (r : Row) × Contains (timed g C hs p t (ws ++ v ∷ [])) r × (r.task ≡ v) × (end g r ≡ finish g C hs t (ws ++ v ∷ []))
   timed_last t [] v = (copy t v, has_here (copy t v) [], refl, refl)
   timed_last t (x ∷ ws) v =
-      let f = timed_last (freed t x) ws v in (
-        f.0,
-        has_there (copy t x) f.0 (timed g C hs p (freed t x) (ws ++ v ∷ [])) f.1,
-        f.2,
-        f.3,
-      )
+      let f = timed_last (freed t x) ws v in
+      (f.0, has_there (copy t x) f.0 (timed g C hs p (freed t x) (ws ++ v ∷ [])) f.1, f.2, f.3)
 
 module _ (g : Graph) (es : List ℕ) where
   -- the tasks that the home of v runs are those of its cluster

@@ -102,7 +102,7 @@ impl Refusal {
             | Refusal::RowRepeated { row }
             | Refusal::RowsOverlap { row }
             | Refusal::InputMissing { row } => Some(row),
-            Refusal::TaskWithoutRow { task } => Some(task as usize),
+            Refusal::TaskWithoutRow { task } => usize::try_from(task).ok(),
             _ => None,
         }
     }

@@ -33,6 +33,9 @@ ended x t = capped (max (t + x.work) x.finish)
 abbrev pub InTurn : RunSummary → RunSummary → RunSummary → Type 0
 InTurn x y both = (t : ℕ) → ended both t ≡ ended y (ended x t)
 
+pub in_turn : (x y : RunSummary) → InTurn x y (run_joined x y)
+in_turn x y t = omega arith
+
 abbrev pub run_written : RunSummary → RunRow
 run_written x = record { work = x.work; finish = x.finish }
 

@@ -25,7 +25,7 @@ pub trait Record: Sized {
     fn from_row(row: Self::Row) -> Self
         ensures { result ≡ kind.read row };
 
-    // Not `From`, of which generic code knows only a relation: one law more would have to say the function.
+    // Not `From`, of which generic code knows a relation only: a law more would have to say what is written.
     /// The row that the record is kept as.
     fn to_row(self) -> Self::Row
         ensures { result ≡ kind.written self };

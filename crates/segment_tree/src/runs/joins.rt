@@ -21,6 +21,7 @@ impl RunSummary {
     pub fn new(work: u32, finish: u32) -> Option<RunSummary>
         ensures { MatchOption result ((finish < work) ⊎ (4_000_000_000 < finish)) (λ run. (run.work ≡ work) × (run.finish ≡ finish)) }
     {
+        // A closure for `then` would have to ask again for what the test has just shown.
         if finish < work || finish > LATEST {
             return None;
         }

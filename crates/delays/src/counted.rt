@@ -25,11 +25,10 @@ impl<L: Link> Link for Counted<L> {
 
     ghost facts = { λ link. L.Link.facts link.below };
 
-    // A method that has a clause of its own, here `counted`, has to say those of the trait again.
+    // `value` and `same` are the trait's, and said again, since they do not follow from `counted`.
     fn delay(&mut self, words: u32) -> Option<u32>
         ensures value { result ≡ L.Link.meaning self.old.below words }
         ensures same { L.Link.meaning self.new.below ≡ L.Link.meaning self.old.below }
-        ensures bounded { IfSome result (λ ticks. ticks ≤ 1000000) }
         ensures counted { self.new.asked ≡ min (self.old.asked + 1) (2 ^ 64 - 1) }
     {
         self.asked = self.asked.saturating_add(1);

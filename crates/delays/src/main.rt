@@ -17,7 +17,7 @@ const LINKS: &str = "Delays in ticks, on
   packets on header: packets of 10, behind a header of 8 words, at the rate
   relay: 3 hops at the rate";
 
-fn run(rt: &HostRuntime) -> anyhow::Result<()> {
+fn main(rt: HostRuntime) -> anyhow::Result<()> {
     let mut samples = Samples::new()?;
     rt.println(LINKS)?;
     // Counted here and not by `enumerate`, since the last number is printed after the loop too.
@@ -34,8 +34,4 @@ fn run(rt: &HostRuntime) -> anyhow::Result<()> {
     }
     println!(rt; "{number} lines, {} questions", samples.asked())?;
     Ok(())
-}
-
-fn main(rt: HostRuntime) -> anyhow::Result<()> {
-    run(&rt)
 }

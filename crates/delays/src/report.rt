@@ -39,6 +39,7 @@ pub fn ask_each<L: Link, const N: usize>(links: &mut [L; N], words: u32) -> [Del
     ensures same { map L.Link.meaning links.new ≡ map L.Link.meaning links.old }
 {
     let mut delays = [Delay { ticks: None }; N];
+    // By index: of a `zip` of two `iter_mut` nothing is known afterwards.
     for (i, link) in links.iter_mut().enumerate() {
         delays[i] = ask(link, words);
     }

@@ -1,6 +1,6 @@
 //! Layers over any link, each a link again. A layer does not carry what is not carried below.
 
-ghost use Rattle.std.specs.Prelude.{◌≡◌, ℕ, ◌≤◌, IfSome};
+ghost use Rattle.std.specs.Prelude.{◌≡◌, ℕ, ◌≤◌};
 ghost use Rattle.links.specs.Meaning.{header_delay, packet_delay, relay_delay};
 ghost use Rattle.links.specs.Padding.{Padded, padded};
 ghost use Rattle.links.specs.Shown.{header_facts, packet_facts, relay_facts};
@@ -38,12 +38,11 @@ impl<L: Link> Link for Packet<L> {
 
     ghost facts = { λ layer. packet_facts (L.Link.meaning layer.below) layer.size (L.Link.facts layer.below) };
 
-    // A method with a clause of its own states the trait's again: they are not taken over, and `asked` alone does not give them.
+    // `value` and `same` are the trait's, and said again, since they do not follow from `asked`.
     #[tactic(auto, using(crate::proofs::LeastMultiples::padded_only))]
     fn delay(&mut self, words: u32) -> Option<u32>
         ensures value { result ≡ packet_delay (L.Link.meaning self.old.below) self.old.size words }
         ensures same { packet_delay (L.Link.meaning self.new.below) self.new.size ≡ packet_delay (L.Link.meaning self.old.below) self.old.size }
-        ensures bounded { IfSome result (λ ticks. ticks ≤ 1000000) }
         ensures asked { (sent : ℕ) → Padded self.old.size words sent → result ≡ L.Link.meaning self.old.below sent }
     {
         let words = in_size(words)?;

@@ -48,8 +48,7 @@ impl StepTable {
         ensures value { result.now ≡ kept self.now }
         ensures len { length result.now ≡ min self.now.count 16 }
     {
-        let count = self.count.min(MOST_STEPS);
-        &self.steps[..count]
+        &self.steps[..self.count.min(MOST_STEPS)]
     }
 
     /// Whether `amount` is above that of the last step, if there is one.
@@ -60,17 +59,17 @@ impl StepTable {
     }
 
     /// The first check that a further step fails, if any.
-    fn check_step(&self, amount: u32, delay: u32) -> Result<(), Refusal>
-        ensures answer { result ≡ step_answer (kept self.now) amount delay }
+    fn check_step(&self, step: Step) -> Result<(), Refusal>
+        ensures answer { result ≡ step_answer (kept self.now) step.amount step.delay }
         ensures room { is_ok result ≡ true → self.now.count < 16 }
     {
         if self.steps().len() >= MOST_STEPS {
             return Err(Refusal::TooManySteps);
         }
-        if amount > MOST_WORDS || !self.is_above_last(amount) {
+        if step.amount > MOST_WORDS || !self.is_above_last(step.amount) {
             return Err(Refusal::StepAmountOutOfRange);
         }
-        if delay > MOST_TICKS {
+        if step.delay > MOST_TICKS {
             return Err(Refusal::StepDelayOutOfRange);
         }
         Ok(())
@@ -85,8 +84,9 @@ impl StepTable {
         ensures refused { is_ok result ≡ false → self.new ≡ self.old }
         ensures made { Made (kept self.old) → Made (kept self.new) }
     {
-        self.check_step(amount, delay)?;
-        self.steps[self.count] = Step { amount, delay };
+        let step = Step { amount, delay };
+        self.check_step(step)?;
+        self.steps[self.count] = step;
         self.count += 1;
         Ok(())
     }

@@ -175,10 +175,8 @@ mod tests {
             Refusal::NoSuchTask.to_string(rt.alloc())?.as_str(),
             "refusal 3: there is no such task"
         );
-        assert!(rt;
-            rows == Refusal::RowMemoryTooSmall { needed: 5 }
-                && rows != Refusal::RowMemoryTooSmall { needed: 6 }
-        );
+        assert_eq!(rt; rows, Refusal::RowMemoryTooSmall { needed: 5 });
+        assert_ne!(rt; rows, Refusal::RowMemoryTooSmall { needed: 6 });
         Ok(())
     }
 }

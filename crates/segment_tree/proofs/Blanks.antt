@@ -1,5 +1,5 @@
 -- A tree of blanks: how it is written, and what it holds.
-use Rattle.std.proofs.Common.{◌≡◌, ℕ, zero, suc, ◌+◌, ◌*◌, ◌<◌, ◌≤◌, List, ◌∷◌, ◌++◌, map, length, take, drop, replicate, sym, refl, ap, ◌∙◌, subst, ap₂, arith}
+use Rattle.std.proofs.Common.{length-append, length-drop, ◌≡◌, ℕ, zero, suc, ◌+◌, ◌*◌, ◌<◌, ◌≤◌, List, ◌∷◌, ◌++◌, map, length, take, drop, replicate, sym, refl, ap, ◌∙◌, subst, ap₂, arith}
 use lib.Seq.{drop-append-le, take-append-le}
 use Rattle.std.proofs.lemmas.List.{drop_at, drop-replicate, get_or_append_left, get_or-replicate, length-replicate, length-take-le, take-replicate}
 use Rattle.segment_tree.specs.Kind.{Kind}
@@ -37,6 +37,7 @@ module _ {K R : Type 0} (kind : Kind K R) (rows : List R) where
   pub all_blank : (row : R) (now : List R) → ((x : K) → kind.read (kind.written x) ≡ x) → ((x : K) → kind.joined kind.blank x ≡ x) → 512 ≤ length rows → row ≡ kind.written kind.blank → now ≡ replicate (length (take 512 rows)) row → AllBlank kind rows (now ++ drop 512 rows)
   all_blank row now kept left room blank is = record {
     rows = new;
+    len = omega (arith, ap length new, length-append (replicate 512 (kind.written kind.blank)) (drop 512 rows), length-replicate 512 (kind.written kind.blank), length-drop 512 rows, room);
     blanks = ap (leaves kind) new ∙ blanked_leaves (kept _);
     rest = ap (drop 512) new ∙ blanked_rest;
     sound = subst (Sound kind) (sym new) (blanked_sound (kept _) (left _));

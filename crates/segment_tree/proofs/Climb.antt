@@ -72,9 +72,9 @@ module _ {K R : Type 0} (kind : Kind K R) where
             all_others k (omega arith) not ∙ sound k low high
             ∙ sym (ap₂ (λ x y. kind.written (kind.joined (kind.read x) (kind.read y))) (child (2 * k) (omega arith) (omega arith) not) (child (2 * k + 1) (omega arith) (omega arith) not))
 
-  pub leaf_set : (old new : List R) (leaf : ℕ) (x : K) → leaf < 256 → drop 256 new ≡ drop 256 (set old (256 + leaf) (kind.written x))
+  pub leaf_set : (old new : List R) (leaf : ℕ) (x : K) → leaf < 256 → length new ≡ length old → drop 256 new ≡ drop 256 (set old (256 + leaf) (kind.written x))
       → Climbed (set old (256 + leaf) (kind.written x)) (256 + leaf) 1 new → LeafSet kind old new leaf x
-  leaf_set old new leaf x within upper done =
+  leaf_set old new leaf x within long upper done =
       let row = kind.written x in
       let leaves : drop 256 new ≡ set (drop 256 old) leaf row = upper ∙ drop-set-add 256 old leaf row in
       record {
@@ -82,5 +82,6 @@ module _ {K R : Type 0} (kind : Kind K R) where
         above = all_above old new (256 + leaf) row done;
         others = all_others old new (256 + leaf) row done;
         rest = sym (drop-drop 256 256 new) ∙ ap (drop 256) leaves ∙ drop-set-lt 256 (drop 256 old) leaf row within ∙ drop-drop 256 256 old;
+        len = long;
         sound = all_sound old new (256 + leaf) row done (omega arith);
       }

@@ -1,7 +1,7 @@
 -- The kind of best arrivals. Assumes nothing.
-use Rattle.std.specs.Prelude.{◌≡◌, ◌≤◌, Bool, cond, ◌&&◌, ◌||◌, ◌⊎◌, ◌==◌, nat_le, nat_lt}
+use Rattle.std.specs.Prelude.{◌≡◌, ◌≤◌, Bool, if◌then◌else◌, ◌&&◌, ◌||◌, ◌⊎◌, ◌==◌, nat_le, nat_lt}
 use Rattle.std.proofs.Common.{arith}
-use Rattle.std.proofs.lemmas.Bool.{cond_both, leb-true}
+use Rattle.std.proofs.lemmas.Bool.Decides.{nat_tests}
 use Rattle.segment_tree.specs.Kind.{Kind}
 use Rattle.segment_tree.specs.declared.arrivals.ArrivalRow.{ArrivalRow}
 use Rattle.segment_tree.specs.declared.arrivals.BestArrival.{BestArrival}
@@ -14,7 +14,7 @@ abbrev pub wins : BestArrival → BestArrival → Bool
 wins y x = nat_lt x.arrival y.arrival || (x.arrival == y.arrival && nat_lt y.task x.task)
 
 abbrev pub best_joined : BestArrival → BestArrival → BestArrival
-best_joined x y = cond (wins y x) y x
+best_joined x y = if wins y x then y else x
 
 -- The winner is one of the two, its arrival is not below either, and of those with that arrival its task is the lowest.
 pub record Winner (x y winner : BestArrival) : Type 0 where
@@ -25,12 +25,15 @@ pub record Winner (x y winner : BestArrival) : Type 0 where
 abbrev pub best_written : BestArrival → ArrivalRow
 best_written x = record { arrival = x.arrival; task = x.task }
 
+pub read_in_range : (row : ArrivalRow) → (if nat_le row.task 4_294_967_295 then row.task else 4_294_967_295) ≤ 4_294_967_295
+read_in_range row = grind (arith, nat_tests)
+
 -- Every row of 32-bit numbers makes a best arrival.
 abbrev pub best_read : ArrivalRow → BestArrival
 best_read row = record {
-  arrival = cond (nat_le row.task 4_294_967_295) row.arrival 0;
-  task = cond (nat_le row.task 4_294_967_295) row.task 4_294_967_295;
-  bounded = cond_both (nat_le row.task 4_294_967_295) row.task 4_294_967_295 (λ n. n ≤ 4_294_967_295) (leb-true row.task 4_294_967_295) (λ e. omega arith);
+  arrival = if nat_le row.task 4_294_967_295 then row.arrival else 0;
+  task = if nat_le row.task 4_294_967_295 then row.task else 4_294_967_295;
+  bounded = read_in_range row;
 }
 
 abbrev pub best_arrivals : Kind BestArrival ArrivalRow

@@ -1,7 +1,7 @@
 -- The kind of run summaries. Assumes nothing.
-use Rattle.std.specs.Prelude.{◌≡◌, ℕ, ◌+◌, ◌≤◌, min, max, Bool, true, false, cond, ◌&&◌, nat_le, refl}
+use Rattle.std.specs.Prelude.{◌≡◌, ℕ, ◌+◌, ◌≤◌, min, max, Bool, if◌then◌else◌, ◌&&◌, nat_le}
 use Rattle.std.proofs.Common.{arith}
-use Rattle.std.proofs.lemmas.Bool.{and_parts, cond_both, leb-true}
+use Rattle.std.proofs.lemmas.Bool.Decides.{nat_tests}
 use Rattle.segment_tree.specs.Kind.{Kind}
 use Rattle.segment_tree.specs.declared.runs.RunRow.{RunRow}
 use Rattle.segment_tree.specs.declared.runs.RunSummary.{RunSummary}
@@ -13,15 +13,12 @@ no_run = record { work = 0; finish = 0; ordered = omega arith; bounded = omega a
 abbrev pub capped : ℕ → ℕ
 capped n = min n 4_000_000_000
 
-pub joined_in_order : (w f v g : ℕ) → w ≤ f → capped (w + v) ≤ capped (max (f + v) g)
-joined_in_order w f v g h = omega arith
-
 -- The works add up. Both runs have finished once the right work is done after the left finish, and not before the right finish.
 abbrev pub run_joined : RunSummary → RunSummary → RunSummary
 run_joined x y = record {
   work = capped (x.work + y.work);
   finish = capped (max (x.finish + y.work) y.finish);
-  ordered = joined_in_order x.work x.finish y.work y.finish x.ordered;
+  ordered = omega (arith, x.ordered);
   bounded = omega arith;
 }
 
@@ -43,17 +40,19 @@ run_written x = record { work = x.work; finish = x.finish }
 abbrev pub makes_run : ℕ → ℕ → Bool
 makes_run work finish = nat_le work finish && nat_le finish 4_000_000_000
 
-pub read_ordered : (b : Bool) (w f : ℕ) → (b ≡ true → w ≤ f) → cond b w 0 ≤ cond b f 0
-read_ordered true w f h = h refl
-read_ordered false w f h = omega arith
+pub read_ordered : (row : RunRow) → (if makes_run row.work row.finish then row.work else 0) ≤ (if makes_run row.work row.finish then row.finish else 0)
+read_ordered row = grind (arith, nat_tests)
+
+pub read_bounded : (row : RunRow) → (if makes_run row.work row.finish then row.finish else 0) ≤ 4_000_000_000
+read_bounded row = grind (arith, nat_tests)
 
 -- Numbers that make no run summary read as the blank.
 abbrev pub run_read : RunRow → RunSummary
 run_read row = record {
-  work = cond (makes_run row.work row.finish) row.work 0;
-  finish = cond (makes_run row.work row.finish) row.finish 0;
-  ordered = read_ordered (makes_run row.work row.finish) row.work row.finish (λ e. leb-true row.work row.finish (and_parts _ _ e).0);
-  bounded = cond_both (makes_run row.work row.finish) row.finish 0 (λ n. n ≤ 4_000_000_000) (λ e. leb-true row.finish 4_000_000_000 (and_parts _ _ e).1) (λ e. omega arith);
+  work = if makes_run row.work row.finish then row.work else 0;
+  finish = if makes_run row.work row.finish then row.finish else 0;
+  ordered = read_ordered row;
+  bounded = read_bounded row;
 }
 
 abbrev pub run_summaries : Kind RunSummary RunRow

@@ -1,6 +1,6 @@
 -- A tree of one kind of record: 256 leaves in the first 512 of its rows, the places. The root is at place 1, the children of
 -- place k are at 2 k and 2 k + 1, so the leaves are the places from 256 on. Place 0 is not used. Assumes nothing.
-use Rattle.std.specs.Prelude.{◌≡◌, ℕ, ◌+◌, ◌*◌, ◌/◌, ◌<◌, ◌≤◌, ◌≢◌, List, [], ◌∷◌, ◌++◌, map, take, drop, replicate, slice_index_or, slice_set}
+use Rattle.std.specs.Prelude.{◌≡◌, ℕ, ◌+◌, ◌*◌, ◌/◌, ◌<◌, ◌≤◌, ◌≢◌, List, [], ◌∷◌, ◌++◌, length, map, take, drop, replicate, slice_index_or, slice_set}
 use Rattle.segment_tree.specs.Kind.{Kind}
 
 -- Halving a place gives its parent. Above a place are its parent, and the parent of what is above it.
@@ -47,6 +47,7 @@ module _ {K R : Type 0} (kind : Kind K R) where
   -- What blanking leaves of the old rows.
   pub record AllBlank (old new : List R) : Type 0 where
     pub rows : new ≡ blanked old
+    pub len : length new ≡ length old
     pub blanks : leaves new ≡ replicate 256 kind.blank
     pub rest : drop 512 new ≡ drop 512 old
     pub sound : Sound new
@@ -60,5 +61,6 @@ module _ {K R : Type 0} (kind : Kind K R) where
     -- every other place is as it was
     pub others : (k : ℕ) → k ≢ 256 + leaf → (Above (256 + leaf) k → ⊥) → row_at new k ≡ row_at old k
     pub rest : drop 512 new ≡ drop 512 old
+    pub len : length new ≡ length old
     -- so a sound tree stays sound
     pub sound : Sound old → Sound new

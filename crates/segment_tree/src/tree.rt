@@ -14,7 +14,7 @@ pub const PLACES: usize = 512;
 // The place of the join of all leaves.
 const ROOT: usize = 1;
 
-// A tree hands the rows it was lent to the functions below. A slice has no invariant, so each of them asks for room.
+// A tree hands the rows it was lent to the functions below. A slice has no invariant, so those that work on places ask for room.
 
 // Writes into a place the join of its two children.
 fn join_children<K: Record>(places: &mut [K::Row], place: usize)
@@ -34,7 +34,7 @@ fn set_leaf<K: Record>(places: &mut [K::Row], leaf: u8, record: K)
 {
     let mut place = LEAVES + usize::from(leaf);
     places[place] = record.to_row();
-    // The place halves at each turn: no range counts so.
+    // A range would count heights and shift by them, which hides that the climb goes from a place to its parent.
     while place > ROOT {
         place /= 2;
         join_children::<K>(places, place);
@@ -69,6 +69,7 @@ fn blank_places<K: Record>(places: &mut [K::Row])
 
 /// A tree of one kind of record over rows that it is lent, and the guard of these rows: it begins blank, and when it ends,
 /// on whichever way out, it leaves its places blank. At every moment between it has its room and is sound.
+// The rows are lent, and as many as ever: the planner allocates no memory.
 pub struct SegmentTree<'a, K: Record> {
     places: &'a mut [K::Row],
     ghost room: { 512 ≤ length places.now },

@@ -34,4 +34,4 @@ returns g c =
     let row = c.to_row.ensures in
     let upper = transport (λ i. drop 256 new ≡ drop 256 (set old (256 + leaf i) (row i))) c.loop-place.invariant.2 in
     let climbed = transport (λ i. Climbed kind (set old (256 + leaf i) (row i)) (256 + leaf i) (ended i) new) c.loop-place.invariant.4 in
-    leaf_set kind old new c.args.leaf c.args.record (omega arith) upper climbed
+    leaf_set kind old new c.args.leaf c.args.record (omega arith) (omega (arith, length-set old (256 + c.from-place.result) c.to_row.result)) upper climbed

@@ -1,24 +1,31 @@
 -- `padded` gives the words of the least number of whole packets, and no other number does. Assumes nothing.
 use Rattle.std.proofs.Common.{◌≡◌, ℕ, ◌+◌, ◌-◌, ◌*◌, ◌/◌, ◌%◌, ◌<◌, ◌≤◌, eqb, sym, refl, ap, ◌∙◌, subst, ⊎_elim, mul-le-mul_right, add-mul, div-add-mod', mod-lt, arith}
 use Rattle.std.proofs.Math.Nat.{mod_self, mod-eq_of_lt, sub-zero}
-use Rattle.std.proofs.lemmas.Bool.{cases_lt, cond_both, eqb-true, eqb-false}
+use Rattle.std.proofs.lemmas.Bool.{cases_lt, cond-false, cond_both, eqb-true, eqb-false, ne_eqb}
 use Rattle.std.specs.Int.{next_multiple_of}
-use Rattle.links.specs.Padding.{LeastMultiple, Padded, padded}
+use Rattle.links.specs.Padding.{LeastMultiple, Padded, packets, padded}
 
--- What the library calls the next multiple is one, less than a packet above the words.
-next_is_near : (size words : ℕ) → 0 < size → ((k : ℕ) × (next_multiple_of words size ≡ k * size)) × (next_multiple_of words size < words + size)
+-- What the library calls the next multiple are the words of all packets, less than one packet above those of the message.
+next_is_near : (size words : ℕ) → 0 < size → (next_multiple_of words size ≡ packets size words * size) × (next_multiple_of words size < words + size)
 next_is_near size words some =
     let split = div-add-mod' words size in
     let rest = mod-lt words some in
     ⊎_elim
     (λ (left : 0 < words % size).
     let gap : (size - words % size) % size ≡ size - words % size = mod-eq_of_lt (omega arith) in
-    ((words / size + 1, omega (arith, add-mul (words / size) 1 size)), omega arith))
+    let one_more : packets size words ≡ words / size + 1 = omega arith in
+    (omega (arith, ap (λ m. m * size) one_more, add-mul (words / size) 1 size), omega arith))
     (λ (none : words % size ≤ 0).
     let zero : words % size ≡ 0 = omega arith in
     let gap : (size - words % size) % size ≡ 0 = ap (λ r. (size - r) % size) zero ∙ ap (λ n. n % size) (sub-zero size) ∙ mod_self size in
-    ((words / size, omega arith), omega arith))
+    let full : packets size words ≡ words / size = omega arith in
+    (omega (arith, ap (λ m. m * size) full), omega arith))
     (cases_lt 0 (words % size))
+
+-- So the words sent are a number of whole packets.
+pub padded_packets : (size words : ℕ) → 0 < size → padded size words ≡ packets size words * size
+padded_packets size words some =
+    cond-false (eqb size 0) words (next_multiple_of words size) (ne_eqb size 0 (λ e. omega (arith, some, e))) ∙ (next_is_near size words some).0
 
 -- A multiple less than a packet above the words is the least that holds them.
 near_is_least : (size words n j k : ℕ) → n ≡ j * size → n < words + size → words ≤ k * size → n ≤ k * size
@@ -31,9 +38,9 @@ near_is_least size words n j k is near reach =
 least_packets : (size words : ℕ) → 0 < size → LeastMultiple size words (next_multiple_of words size)
 least_packets size words some =
     let found = next_is_near size words some in
-    record { multiple = found.0; enough = omega arith; least = λ k. near_is_least size words (next_multiple_of words size) found.0.0 k found.0.1 found.1 }
+    record { multiple = (packets size words, found.0); enough = omega arith; least = λ k. near_is_least size words (next_multiple_of words size) (packets size words) k found.0 found.1 }
 
-padded_least : (size words : ℕ) → Padded size words (padded size words)
+pub padded_least : (size words : ℕ) → Padded size words (padded size words)
 padded_least size words =
     cond_both (eqb size 0) words (next_multiple_of words size) (Padded size words)
     (λ e. record { as_it_is = λ _. refl; whole = λ some. let none : size ≡ 0 = eqb-true size 0 e in absurd (omega arith) })

@@ -53,14 +53,14 @@ all_under amount xs rising last =
     omega (arith, last (omega arith), ap (λ k. (get_or xs k (new_step 0 0)).amount) at))
     (cases_lt i (length xs - 1)))
 
-made_push : (xs : List Step) (amount delay : ℕ) → Ok tt ≡ step_answer xs amount delay → Made xs → Made (xs ++ (new_step amount delay ∷ []))
-made_push xs amount delay ok (limited, rising) =
+pub Made-push : (xs : List Step) (amount delay : ℕ) → Ok tt ≡ step_answer xs amount delay → Made xs → Made (xs ++ (new_step amount delay ∷ []))
+Made-push xs amount delay ok (limited, rising) =
     let s = new_step amount delay in
     let under = all_under amount xs rising (taken_last xs amount delay ok) in
     (All-push Limited xs s limited (taken_size xs amount delay ok, taken_time xs amount delay ok), all_pairs_push Below xs s rising under)
 
 -- A step written behind the kept ones is kept.
-kept_more : (steps : List Step) (count : ℕ) (s : Step) → count < 16 → count < length steps → take (min (count + 1) 16) (set steps count s) ≡ take (min count 16) steps ++ (s ∷ [])
+pub kept_more : (steps : List Step) (count : ℕ) (s : Step) → count < 16 → count < length steps → take (min (count + 1) 16) (set steps count s) ≡ take (min count 16) steps ++ (s ∷ [])
 kept_more steps count s room within =
     let more : min (count + 1) 16 ≡ count + 1 = omega arith in
     let all : min count 16 ≡ count = omega arith in
@@ -68,7 +68,7 @@ kept_more steps count s room within =
 
 pub kept_made : (table : StepTable) (amount delay : ℕ) → Ok tt ≡ step_answer (kept table) amount delay → table.count < 16 → table.count < length table.steps → Made (kept table) → Made (kept record { steps = set table.steps table.count (new_step amount delay); count = table.count + 1 })
 kept_made table amount delay ok room within made =
-    subst Made (sym (kept_more table.steps table.count (new_step amount delay) room within)) (made_push (kept table) amount delay ok made)
+    subst Made (sym (kept_more table.steps table.count (new_step amount delay) room within)) (Made-push (kept table) amount delay ok made)
 
 -- The step that is reached.
 

@@ -1,5 +1,5 @@
 -- How many words a message fills that is sent in whole packets. Assumes nothing.
-use Rattle.std.specs.Prelude.{◌≡◌, ℕ, ◌*◌, ◌<◌, ◌≤◌, if◌then◌else◌, ◌==◌}
+use Rattle.std.specs.Prelude.{◌≡◌, ℕ, ◌+◌, ◌*◌, ◌/◌, ◌%◌, ◌<◌, ◌≤◌, min, if◌then◌else◌, ◌==◌}
 use Rattle.std.specs.Int.{next_multiple_of}
 
 -- `n` is the least multiple of `size` that is not less than `words`.
@@ -12,6 +12,10 @@ pub record LeastMultiple (size words n : ℕ) : Type 0 where
 pub record Padded (size words n : ℕ) : Type 0 where
   pub as_it_is : size ≡ 0 → n ≡ words
   pub whole : 0 < size → LeastMultiple size words n
+
+-- How many packets hold the words: the full ones, and one more where a part is left over.
+abbrev pub packets : ℕ → ℕ → ℕ
+packets size words = words / size + min 1 (words % size)
 
 -- The words sent, as a number.
 abbrev pub padded : ℕ → ℕ → ℕ

@@ -1,11 +1,12 @@
 -- Each meaning keeps to the facts of a link. Assumes nothing.
-use Rattle.std.specs.Prelude.{◌≡◌, ℕ, ◌+◌, ◌*◌, ◌≤◌, Some, None, Option}
-use Rattle.std.proofs.Common.{ap, arith}
+use Rattle.std.specs.Prelude.{◌≡◌, ℕ, ◌+◌, ◌*◌, ◌/◌, ◌%◌, ◌<◌, ◌≤◌, min, Some, None, Option}
+use Rattle.std.proofs.Common.{ap, ⊎_elim, div-add-mod', mod-lt, add-mul, arith}
+use Rattle.std.proofs.lemmas.Bool.{cases_lt}
 use Rattle.std.proofs.lemmas.Bool.Decides.{nat_tests}
 use Rattle.std.specs.Option.{option_map}
 use Rattle.links.specs.Facts.{Facts}
 use Rattle.links.specs.Meaning.{within_size, within_time, rate_delay, header_delay, packet_delay, relay_delay}
-use Rattle.links.specs.Padding.{padded}
+use Rattle.links.specs.Padding.{packets, padded}
 
 pub within_time_bounded : (delay : Option ℕ) (ticks : ℕ) → within_time delay ≡ Some ticks → ticks ≤ 1000000
 within_time_bounded None ticks is = grind (arith, nat_tests)
@@ -28,6 +29,16 @@ header_facts below header facts = record {
 }
 
 -- Whole packets hold all the words.
+pub enough : (size words : ℕ) → 0 < size → words ≤ packets size words * size
+enough size words some =
+    let split = div-add-mod' words size in
+    let rest = mod-lt words some in
+    let parts = add-mul (words / size) (min 1 (words % size)) size in
+    ⊎_elim
+    (λ (left : 0 < words % size). let one : min 1 (words % size) ≡ 1 = omega arith in omega (arith, ap (λ m. m * size) one))
+    (λ (none : words % size ≤ 0). omega arith)
+    (cases_lt 0 (words % size))
+
 pub padded_enough : (size words : ℕ) → words ≤ padded size words
 padded_enough size words = grind (arith, nat_tests)
 

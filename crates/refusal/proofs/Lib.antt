@@ -1,1 +1,2 @@
 pub mod FirstCheck
+pub mod Equality

@@ -1,5 +1,7 @@
 -- What each refusal says: its number, its wording and the value that it carries. Assumes nothing.
-use Rattle.std.specs.Prelude.{ℕ, List, [], ◌++◌, Some, None, codes, decimal, Option}
+use Rattle.std.specs.Prelude.{ℕ, Bool, ◌==◌, List, [], ◌++◌, Some, None, codes, decimal, Option}
+use Rattle.std.specs.Option.{option_eq}
+use Rattle.std.specs.Ordering.{eq_of_both, on}
 use Rattle.refusal.specs.declared.Refusal.{Refusal}
 use Rattle.refusal.specs.declared.Refusal.TheVariants.{DurationOutOfRange, TooManyTasks, NoSuchTask, ArcNotForward, ArcRepeated, TooManyArcs, AmountNotCarried, BoundMemoryTooSmall, WorkMemoryTooSmall, RowMemoryTooSmall, RowWithoutTask, RowRepeated, RowsOverlap, InputMissing, TaskWithoutRow, TooManySteps, StepAmountOutOfRange, StepDelayOutOfRange, LineBroken, LineOutOfOrder, AnswerMemoryTooSmall, TextTooLong}
 
@@ -38,6 +40,10 @@ meaning_of LineBroken = plain 19 (codes "the line is broken")
 meaning_of LineOutOfOrder = plain 20 (codes "the line is out of order")
 meaning_of (AnswerMemoryTooSmall needed) = valued 21 (codes "the answer memory is too small; bytes needed: ") needed
 meaning_of TextTooLong = plain 22 (codes "the text has more than 20,480 bytes")
+
+-- whether two refusals have the same number and the same value
+abbrev pub same_refusal : Refusal → Refusal → Bool
+same_refusal = eq_of_both (on (λ r. (meaning_of r).number) ◌==◌) (on (λ r. (meaning_of r).value) (option_eq ◌==◌))
 
 abbrev pub value_text : Option ℕ → List ℕ
 value_text None = []

@@ -1,8 +1,10 @@
 //! Every refusal of the planner: what is wrong with a call, its number and the value it carries.
 #![tactic(auto)]
 
-ghost use Rattle.std.specs.Prelude.{◌≡◌, Some};
-ghost use Rattle.refusal.specs.Meaning.{meaning_of, shown_text};
+ghost use Rattle.std.specs.Prelude.{◌≡◌, ◌↔◌, IsTrue, Some};
+ghost use Rattle.refusal.specs.Meaning.{meaning_of, same_refusal, shown_text};
+ghost use Rattle.std.specs.Cmp.Rules.{comparing};
+ghost use Rattle.std.proofs.Common.{rules};
 
 mod laws;
 
@@ -11,7 +13,7 @@ use std::error::Error;
 use std::fmt;
 
 /// Why a call is refused.
-#[derive(Clone, Copy, PartialEq, Eq, Debug)]
+#[derive(Clone, Copy, Eq, Debug)]
 pub enum Refusal {
     /// 1: the duration is not 1 to 1,000,000.
     DurationOutOfRange,
@@ -143,6 +145,20 @@ impl Refusal {
     }
 }
 
+// The number and the value tell the refusal. Not derived: callers have what `==` says from its contract, and a derived one has none.
+impl PartialEq for Refusal {
+    ghost eq = { same_refusal };
+
+    ghost laws = { Prim.search (comparing, rules) };
+
+    fn eq(&self, other: &Refusal) -> bool
+        ensures value { result ≡ same_refusal self.now other.now }
+        ensures decides { IsTrue result ↔ (self.now ≡ other.now) }
+    {
+        self.number() == other.number() && self.value() == other.value()
+    }
+}
+
 // A derived text would say each number and each wording again beside its case; `number` and `wording` give them already.
 impl fmt::Display for Refusal {
     ghost output = { λ x. Some (shown_text x) };
@@ -164,6 +180,13 @@ mod tests {
     use super::*;
     use std::test::Fail;
 
+    // A caller has from `==` alone which refusal it was.
+    fn asks_for(refusal: Refusal, rows: usize) -> bool
+        ensures { IsTrue result ↔ (refusal ≡ Refusal.RowMemoryTooSmall rows) }
+    {
+        refusal == Refusal::RowMemoryTooSmall { needed: rows }
+    }
+
     #[test]
     fn a_refusal_reads_as_a_sentence(rt: HostRuntime) -> Result<(), Fail> {
         let rows = Refusal::RowMemoryTooSmall { needed: 5 };
@@ -177,6 +200,7 @@ mod tests {
         );
         assert_eq!(rt; rows, Refusal::RowMemoryTooSmall { needed: 5 });
         assert_ne!(rt; rows, Refusal::RowMemoryTooSmall { needed: 6 });
+        assert!(rt; asks_for(rows, 5) && !asks_for(rows, 6));
         Ok(())
     }
 }

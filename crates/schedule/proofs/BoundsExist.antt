@@ -10,7 +10,7 @@ use Rattle.schedule.proofs.Locality.{Agree, least_agrees}
 
 module _ (g : Graph) (fw : Forward g) where
   -- a list of bounds, and one more that was found with it
-  bounds_more : (es : List ℕ) (v b : ℕ) → length es ≡ v → BoundsTo g es v → Least g es v b → BoundsTo g (es ++ b ∷ []) (suc v)
+  pub bounds_more : (es : List ℕ) (v b : ℕ) → length es ≡ v → BoundsTo g es v → Least g es v b → BoundsTo g (es ++ b ∷ []) (suc v)
   bounds_more es v b len each here u l =
       below_more (λ w. Least g (es ++ b ∷ []) w (bound (es ++ b ∷ []) w)) v
       (λ w m. subst (Least g (es ++ b ∷ []) w) (sym (old w m))
@@ -36,7 +36,7 @@ module _ (g : Graph) (fw : Forward g) where
   found_are_bounds = record { each = omega (arith, length_found (tasks g)); least = found_to (tasks g) }
 
   -- the bounds below n determine the next one
-  bounds_agree : (es fs : List ℕ) (n : ℕ) → BoundsTo g es n → BoundsTo g fs n → Agree es fs n
+  pub bounds_agree : (es fs : List ℕ) (n : ℕ) → BoundsTo g es n → BoundsTo g fs n → Agree es fs n
   bounds_agree es fs zero b c u l = absurd (omega arith)
   bounds_agree es fs (suc n) b c u l =
       let lower : Agree es fs n = bounds_agree es fs n (λ w m. b w (omega (arith, m))) (λ w m. c w (omega (arith, m))) in
@@ -44,7 +44,7 @@ module _ (g : Graph) (fw : Forward g) where
       (least_one g fs n (bound es n) (bound fs n) (least_agrees es fs g fw n lower (bound es n) (b n (omega arith))) (c n (omega arith)))
       u (omega (arith, l))
 
-  bounds_unique : (es fs : List ℕ) → Bounds g es → Bounds g fs → es ≡ fs
+  pub bounds_unique : (es fs : List ℕ) → Bounds g es → Bounds g fs → es ≡ fs
   bounds_unique es fs b c =
       ext_get_or 0 es fs (b.each ∙ sym c.each) (λ i l. bounds_agree es fs (tasks g) b.least c.least i (omega (arith, l, b.each)))
 

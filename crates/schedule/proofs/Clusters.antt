@@ -19,11 +19,11 @@ use Rattle.schedule.proofs.Sets.{enters_from, with_cases, with_self}
 
 module _ (g : Graph) (es : List ℕ) (v : ℕ) where
   -- growth's set of turn k attains the bound
-  abbrev Attains : ℕ → Type 0
+  abbrev pub Attains : ℕ → Type 0
   Attains k = reach g es v (grown g es v k) ≡ bound es v
 
   -- the earliest turn, from k on, that attains the bound gives the earliest set
-  earliest_set_is : (n k i : ℕ) → k ≤ i → i ≤ n + k → Attains i → ((j : ℕ) → k ≤ j → j < i → Attains j → ⊥)
+  pub earliest_set_is : (n k i : ℕ) → k ≤ i → i ≤ n + k → Attains i → ((j : ℕ) → k ≤ j → j < i → Attains j → ⊥)
       → earliest_set g es v n k ≡ grown g es v i
   earliest_set_is zero k i l h a before = ap (grown g es v) {x = k} {y = i} (omega arith)
   earliest_set_is (suc n) k i l h a before =
@@ -36,7 +36,7 @@ module _ (g : Graph) (es : List ℕ) (v : ℕ) where
       (cases_eq i k)
 
   -- where a turn attains the bound, there is an earliest
-  earliest_turn : (n k j : ℕ) → k ≤ j → j ≤ n + k → Attains j
+  pub earliest_turn : (n k j : ℕ) → k ≤ j → j ≤ n + k → Attains j
       → (i : ℕ) × (k ≤ i) × (i ≤ j) × Attains i × ((h : ℕ) → k ≤ h → h < i → Attains h → ⊥)
   earliest_turn zero k j l h a = (j, l, omega arith, a, λ i m o. absurd (omega (arith, l, h, m, o)))
   earliest_turn (suc n) k j l h a =
@@ -61,6 +61,7 @@ module _ (g : Graph) (es : List ℕ) (fw : Forward g) (bs : Bounds g es) (v : �
   -- the earliest turn whose set attains the bound
   pub record Chosen : Type 0 where
     pub turns : ℕ
+    pub few : turns ≤ v
     pub is : others g es v ≡ grown g es v turns
     pub attains : reach g es v (grown g es v turns) ≡ bound es v
     pub earliest : (k : ℕ) → k < turns → reach g es v (grown g es v k) ≡ bound es v → ⊥
@@ -68,6 +69,7 @@ module _ (g : Graph) (es : List ℕ) (fw : Forward g) (bs : Bounds g es) (v : �
   pub chosen : Chosen
   chosen = record {
     turns = e.0;
+    few = omega (arith, e.2, a.1);
     is = earliest_set_is g es v v 0 e.0 e.1 (omega (arith, e.2, a.1)) e.3 e.4;
     attains = e.3;
     earliest = λ k l. e.4 k (omega arith) l;
@@ -102,10 +104,10 @@ earliest_set-grown g es v (suc n) k =
     (λ _. earliest_set-grown g es v n (suc k))
 
 module _ (g : Graph) (es : List ℕ) (fw : Forward g) (v : ℕ) where
-  others_ancestors : Ancestors g v (others g es v)
+  pub others_ancestors : Ancestors g v (others g es v)
   others_ancestors u e = let s = earliest_set-grown g es v v 0 in grown_ancestors g es v fw s.0 u (sym (ap (λ S. S u) s.1) ∙ e)
 
-  cluster_cases : (u : ℕ) → cluster g es v u ≡ true → (u ≡ v) ⊎ Ancestor g u v
+  pub cluster_cases : (u : ℕ) → cluster g es v u ≡ true → (u ≡ v) ⊎ Ancestor g u v
   cluster_cases u e = ⊎_elim (λ p. inl p) (λ k. inr (others_ancestors u k)) (with_cases (others g es v) v u e)
 
   pub cluster_most : (u : ℕ) → cluster g es v u ≡ true → u ≤ v

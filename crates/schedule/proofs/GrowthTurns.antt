@@ -12,14 +12,14 @@ use Rattle.schedule.proofs.Sets.{Within, enters_from, enters_parts, tally, tally
 
 module _ (g : Graph) (es : List ℕ) (v : ℕ) where
   -- growth goes on with K
-  abbrev Open : Set → Type 0
+  abbrev pub Open : Set → Type 0
   Open K = goes_on g es v K ≡ true
 
   -- growth ends with K
-  abbrev Shut : Set → Type 0
+  abbrev pub Shut : Set → Type 0
   Shut K = goes_on g es v K ≡ false
 
-  open_less : (K : Set) → Open K → run g es v K < front g es (with K v)
+  pub open_less : (K : Set) → Open K → run g es v K < front g es (with K v)
   open_less K o = ltb-true (run g es v K) (front g es (with K v)) o
 
   pub shut_most : (K : Set) → Shut K → front g es (with K v) ≤ run g es v K
@@ -29,10 +29,10 @@ module _ (g : Graph) (es : List ℕ) (v : ℕ) where
   abbrev pub added : Set → ℕ
   added K = next g es (with K v)
 
-  turn_open : (K : Set) → Open K → turn g es v K ≡ with K (added K)
+  pub turn_open : (K : Set) → Open K → turn g es v K ≡ with K (added K)
   turn_open K o = cond-true (goes_on g es v K) (with K (added K)) K o
 
-  turn_shut : (K : Set) → Shut K → turn g es v K ≡ K
+  pub turn_shut : (K : Set) → Shut K → turn g es v K ≡ K
   turn_shut K s = cond-false (goes_on g es v K) (with K (added K)) K s
 
   turn_cases : (K : Set) (u : ℕ) → turn g es v K u ≡ true → (K u ≡ true) ⊎ (Open K × (u ≡ added K))
@@ -43,7 +43,7 @@ module _ (g : Graph) (es : List ℕ) (v : ℕ) where
       (cases_Bool (goes_on g es v K))
 
   -- once growth has ended its set stays
-  shut_stays : (k : ℕ) → Shut (grown g es v k) → Shut (grown g es v (suc k))
+  pub shut_stays : (k : ℕ) → Shut (grown g es v k) → Shut (grown g es v (suc k))
   shut_stays k s = ap (goes_on g es v) (turn_shut (grown g es v k) s) ∙ s
 
   open_before : (k : ℕ) → Open (grown g es v (suc k)) → Open (grown g es v k)
@@ -60,7 +60,7 @@ module _ (g : Graph) (es : List ℕ) (v : ℕ) where
       (λ l. (a.0, omega (arith, a.1), omega (arith, l, a.2)))
       (cases_lt (reach g es v (grown g es v (suc k))) (least_reach g es v k))
 
-  least_below : (k j : ℕ) → j ≤ k → least_reach g es v k ≤ reach g es v (grown g es v j)
+  pub least_below : (k j : ℕ) → j ≤ k → least_reach g es v k ≤ reach g es v (grown g es v j)
   least_below zero j l = subst (λ x. reach g es v none ≤ reach g es v (grown g es v x)) {x = 0} {y = j} (omega arith) (omega arith)
   least_below (suc k) j l =
       ⊎_elim
@@ -105,12 +105,12 @@ module _ (g : Graph) (es : List ℕ) (v : ℕ) where
         ∙ tally-with (grown g es v k) (added (grown g es v k)) v
         (ancestor_below g fw (added_ancestor (grown g es v k) (grown_ancestors k) o)) (fresh (grown g es v k) o).1
 
-    grown_many : (k : ℕ) → Open (grown g es v k) → tally (grown g es v k) v ≡ k
+    pub grown_many : (k : ℕ) → Open (grown g es v k) → tally (grown g es v k) v ≡ k
     grown_many zero o = tally_none v
     grown_many (suc k) o = let p = open_before k o in omega (arith, tally_open k p, grown_many k p)
 
     -- so fewer than v turns go on
-    open_few : (k : ℕ) → Open (grown g es v k) → k < v
+    pub open_few : (k : ℕ) → Open (grown g es v k) → k < v
     open_few k o = omega (arith, tally_most (grown g es v (suc k)) v, tally_open k o, grown_many k o)
 
     pub growth_ends : Shut (grown g es v v)
@@ -133,7 +133,7 @@ module _ (g : Graph) (es : List ℕ) (v : ℕ) where
         b = brought K o
 
     -- a set of lesser reach than growth's sets so far contains them all
-    lesser_contains : (k : ℕ) (L : Set) → Within (grown g es v k) L ⊎ (least_reach g es v k ≤ reach g es v L)
+    pub lesser_contains : (k : ℕ) (L : Set) → Within (grown g es v k) L ⊎ (least_reach g es v k ≤ reach g es v L)
     lesser_contains zero L = inl (λ u e. absurd (false≢true e))
     lesser_contains (suc k) L =
         ⊎_elim
@@ -152,7 +152,7 @@ module _ (g : Graph) (es : List ℕ) (v : ℕ) where
         wider w e u f = ⊎_elim (λ h. w u h) (λ p. subst (λ x. L x ≡ true) (sym p.1) e) (turn_cases K u f)
 
     -- where growth has ended, the least reach of its sets is the least over all sets of ancestors
-    least_when_shut : (k : ℕ) → Shut (grown g es v k) → Least g es v (least_reach g es v k)
+    pub least_when_shut : (k : ℕ) → Shut (grown g es v k) → Least g es v (least_reach g es v k)
     least_when_shut k s = record {
       below = λ L anc.
           ⊎_elim

@@ -15,7 +15,7 @@ abbrev pub Agree : List ℕ → List ℕ → ℕ → Type 0
 Agree es fs n = (u : ℕ) → u < n → bound es u ≡ bound fs u
 
 -- The tasks of K are below n.
-abbrev Below : ℕ → Set → Type 0
+abbrev pub Below : ℕ → Set → Type 0
 Below n K = (u : ℕ) → K u ≡ true → u < n
 
 with_below : (v : ℕ) (K : Set) → Below v K → Below (suc v) (with K v)
@@ -38,7 +38,7 @@ module _ (es fs : List ℕ) where
       ap₂ (λ x y. cond (ltb x y) (t ∷ u ∷ us) (u ∷ placed es t us)) e (h u (has_here u us)) ∙ ap
       (λ l. cond (ltb (bound fs t) (bound fs u)) (t ∷ u ∷ us) (u ∷ l)) (placed_agrees t us e (alike_rest u us h))
 
-  order_agrees : (n : ℕ) → Agree es fs n → order es n ≡ order fs n
+  pub order_agrees : (n : ℕ) → Agree es fs n → order es n ≡ order fs n
   order_agrees zero a = refl
   order_agrees (suc n) a =
       let b : Agree es fs n = λ u l. a u (omega (arith, l)) in
@@ -51,7 +51,7 @@ module _ (es fs : List ℕ) where
         run_from_agrees K (after g es K t u) us (alike_rest u us h)
         ∙ ap (λ x. run_from g fs K (cond (K u) (max t x + duration g u) t) us) (h u (has_here u us))
 
-    run_agrees : (v : ℕ) (K : Set) → Agree es fs v → run g es v K ≡ run g fs v K
+    pub run_agrees : (v : ℕ) (K : Set) → Agree es fs v → run g es v K ≡ run g fs v K
     run_agrees v K a =
         run_from_agrees K 0 (order es v) (alike_order v a) ∙ ap (run_from g fs K 0) (order_agrees v a)
 
@@ -70,11 +70,11 @@ module _ (es fs : List ℕ) where
           (cases_Bool (enters S b)))
           (latest_agrees rest (λ c i. h c (has_there b c rest i)))
 
-      front_agrees : front g es S ≡ front g fs S
+      pub front_agrees : front g es S ≡ front g fs S
       front_agrees = latest_agrees g.arcs same
 
     module _ (fw : Forward g) (v : ℕ) (a : Agree es fs v) where
-      reach_agrees : (K : Set) → Below v K → reach g es v K ≡ reach g fs v K
+      pub reach_agrees : (K : Set) → Below v K → reach g es v K ≡ reach g fs v K
       reach_agrees K low = ap₂ (λ x y. max x y) (run_agrees v K a) (front_agrees fw v a (with K v) (with_below v K low))
 
       pub least_agrees : (b : ℕ) → Least g es v b → Least g fs v b

@@ -30,7 +30,7 @@ module _ (g : Graph) (C : Set) (hs : List ℕ) (p : ℕ) where
   abbrev copy : ℕ → ℕ → Row
   copy t w = record { processor = p; task = w; start = starts g C hs t w }
 
-  finish_low : (t : ℕ) (ws : List ℕ) → t ≤ finish g C hs t ws
+  pub finish_low : (t : ℕ) (ws : List ℕ) → t ≤ finish g C hs t ws
   finish_low t [] = omega arith
   finish_low t (w ∷ ws) = omega (arith, finish_low (freed t w) ws)
 
@@ -42,7 +42,7 @@ module _ (g : Graph) (C : Set) (hs : List ℕ) (p : ℕ) where
     pub fed : inputs C hs r.task g.arcs ≤ r.start
     pub by : end g r ≤ finish g C hs t ws
 
-  timed_each : (t : ℕ) (ws : List ℕ) (r : Row) → Contains (timed g C hs p t ws) r → Timed t ws r
+  pub timed_each : (t : ℕ) (ws : List ℕ) (r : Row) → Contains (timed g C hs p t ws) r → Timed t ws r
   timed_each t [] r h = absurd (omega (arith, h.1))
   timed_each t (w ∷ ws) r h =
       ⊎_elim
@@ -52,7 +52,7 @@ module _ (g : Graph) (C : Set) (hs : List ℕ) (p : ℕ) where
       record { on = k.on; of = has_there w r.task ws k.of; from = omega (arith, k.from); fed = k.fed; by = k.by })
       (has_cases (copy t w) r (timed g C hs p (freed t w) ws) h)
 
-  timed_pairs : (R : ℕ → ℕ → Type 0) (t : ℕ) (ws : List ℕ) → AllPairs R ws → AllPairs (Follows g R) (timed g C hs p t ws)
+  pub timed_pairs : (R : ℕ → ℕ → Type 0) (t : ℕ) (ws : List ℕ) → AllPairs R ws → AllPairs (Follows g R) (timed g C hs p t ws)
   timed_pairs R t [] h = pairs_short (Follows g R) [] (omega arith)
   timed_pairs R t (w ∷ ws) h =
       pairs_more (Follows g R) (copy t w) (timed g C hs p (freed t w) ws)
@@ -87,7 +87,7 @@ module _ (g : Graph) (C : Set) (hs : List ℕ) (p : ℕ) where
       (λ j. let f = timed_has (freed t x) w ws j in (f.0, has_there row f.0 rest f.1, f.2))
       (has_cases x w ws i)
 
-  timed_last : (t : ℕ) (ws : List ℕ) (v : ℕ)
+  pub timed_last : (t : ℕ) (ws : List ℕ) (v : ℕ)
       → (r : Row) × Contains (timed g C hs p t (ws ++ v ∷ [])) r × (r.task ≡ v) × (end g r ≡ finish g C hs t (ws ++ v ∷ []))
   timed_last t [] v = (copy t v, has_here (copy t v) [], refl, refl)
   timed_last t (x ∷ ws) v =
@@ -108,13 +108,13 @@ module _ (g : Graph) (es : List ℕ) where
   has_members v u l c = has_kept (cluster g es v) u (order es (suc v)) c (has_order es (suc v) u (omega (arith, l)))
 
   -- a row of processor p, the home of v
-  abbrev HomeRow : ℕ → ℕ → Row → Type 0
+  abbrev pub HomeRow : ℕ → ℕ → Row → Type 0
   HomeRow p v r = Timed g (cluster g es v) (homes g es v) p 0 (members g es v) r
 
   pub home_row : (p v : ℕ) (r : Row) → Contains (home_rows g es p v) r → HomeRow p v r
   home_row p v r h = timed_each g (cluster g es v) (homes g es v) p 0 (members g es v) r h
 
-  home_pairs : (p v : ℕ) → AllPairs (Follows g (Before es)) (home_rows g es p v)
+  pub home_pairs : (p v : ℕ) → AllPairs (Follows g (Before es)) (home_rows g es p v)
   home_pairs p v = timed_pairs g (cluster g es v) (homes g es v) p (Before es) 0 (members g es v) (members_rise v)
 
   -- of two rows of one home, one whose task runs before the other's has ended when the other starts
@@ -134,7 +134,7 @@ module _ (g : Graph) (es : List ℕ) where
       (λ q. absurd (⊎_elim (λ f. before_other es s.task r.task f.1 e) (λ f. before_other es r.task s.task f.1 (sym e)) q))
       (pairs_cases (Follows g (Before es)) (home_rows g es p v) s r (home_pairs p v) i j)
 
-  rows_has : (p : ℕ) (vs : List ℕ) (i : ℕ) (r : Row) → i < length vs → Contains (home_rows g es (p + i) (get_or vs i 0)) r
+  pub rows_has : (p : ℕ) (vs : List ℕ) (i : ℕ) (r : Row) → i < length vs → Contains (home_rows g es (p + i) (get_or vs i 0)) r
       → Contains (rows_from g es p vs) r
   rows_has p [] i r l h = absurd (omega arith)
   rows_has p (v ∷ vs) zero r l h =
@@ -145,10 +145,10 @@ module _ (g : Graph) (es : List ℕ) where
       (subst (λ x. Contains (home_rows g es x (get_or vs i 0)) r) {x = p + suc i} {y = suc p + i} (omega arith) h))
 
   -- a row of the homes of vs, from processor p on, belongs to one of them
-  abbrev Homed : ℕ → List ℕ → Row → Type 0
+  abbrev pub Homed : ℕ → List ℕ → Row → Type 0
   Homed p vs r = (i : ℕ) × (i < length vs) × Contains (home_rows g es (p + i) (get_or vs i 0)) r
 
-  rows_homed : (p : ℕ) (vs : List ℕ) (r : Row) → Contains (rows_from g es p vs) r → Homed p vs r
+  pub rows_homed : (p : ℕ) (vs : List ℕ) (r : Row) → Contains (rows_from g es p vs) r → Homed p vs r
   rows_homed p [] r h = absurd (omega (arith, h.1))
   rows_homed p (v ∷ vs) r h =
       ⊎_elim

@@ -10,7 +10,7 @@ map-replicate f zero x = refl
 map-replicate f (suc n) x = ap (λ ys. f x ∷ ys) (map-replicate f n x)
 
 module _ {K R : Type 0} (kind : Kind K R) (rows : List R) where
-  blanked_rest : drop 512 (blanked kind rows) ≡ drop 512 rows
+  pub blanked_rest : drop 512 (blanked kind rows) ≡ drop 512 rows
   blanked_rest = drop_at (replicate 512 (kind.written kind.blank)) (drop 512 rows) 512 (length-replicate 512 (kind.written kind.blank))
 
   blanked_at : (k : ℕ) → k < 512 → row_at kind (blanked kind rows) k ≡ kind.written kind.blank
@@ -18,7 +18,7 @@ module _ {K R : Type 0} (kind : Kind K R) (rows : List R) where
       let blank = kind.written kind.blank in
       get_or_append_left (replicate 512 blank) (drop 512 rows) blank k (omega (arith, length-replicate 512 blank)) ∙ get_or-replicate 512 k blank blank within
 
-  blanked_leaves : kind.read (kind.written kind.blank) ≡ kind.blank → leaves kind (blanked kind rows) ≡ replicate 256 kind.blank
+  pub blanked_leaves : kind.read (kind.written kind.blank) ≡ kind.blank → leaves kind (blanked kind rows) ≡ replicate 256 kind.blank
   blanked_leaves kept =
       let blank = kind.written kind.blank in
       let blanks = replicate 512 blank in
@@ -28,7 +28,7 @@ module _ {K R : Type 0} (kind : Kind K R) (rows : List R) where
       ap (take 256) dropped ∙ take-append-le 256 (replicate 256 blank) (drop 512 rows) (omega (arith, length-replicate 256 blank)) ∙ take-replicate 256 256 blank (omega arith) in
       ap (map kind.read) taken ∙ map-replicate kind.read 256 blank ∙ ap (replicate 256) kept
 
-  blanked_sound : kind.read (kind.written kind.blank) ≡ kind.blank → kind.joined kind.blank kind.blank ≡ kind.blank → Sound kind (blanked kind rows)
+  pub blanked_sound : kind.read (kind.written kind.blank) ≡ kind.blank → kind.joined kind.blank kind.blank ≡ kind.blank → Sound kind (blanked kind rows)
   blanked_sound kept both k low high =
       let child : (i : ℕ) → i < 512 → kind.read (row_at kind (blanked kind rows) i) ≡ kind.blank = λ i within. ap kind.read (blanked_at i within) ∙ kept in
       blanked_at k (omega arith) ∙ sym (ap kind.written (ap₂ kind.joined (child (2 * k) (omega arith)) (child (2 * k + 1) (omega arith)) ∙ both))

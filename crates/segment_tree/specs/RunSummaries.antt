@@ -1,5 +1,5 @@
 -- The kind of run summaries. Assumes nothing.
-use Rattle.std.specs.Prelude.{◌≡◌, ℕ, ◌+◌, ◌≤◌, min, max, Bool, if◌then◌else◌, ◌&&◌, nat_le}
+use Rattle.std.specs.Prelude.{◌≡◌, ℕ, ◌+◌, ◌≤◌, min, max, Bool, true, false, if◌then◌else◌, ◌&&◌, nat_le, refl}
 use Rattle.std.proofs.Common.{arith}
 use Rattle.std.proofs.lemmas.Bool.Decides.{nat_tests}
 use Rattle.segment_tree.specs.Kind.{Kind}
@@ -13,12 +13,15 @@ no_run = record { work = 0; finish = 0; ordered = omega arith; bounded = omega a
 abbrev pub capped : ℕ → ℕ
 capped n = min n 4_000_000_000
 
+pub joined_in_order : (w f v g : ℕ) → w ≤ f → capped (w + v) ≤ capped (max (f + v) g)
+joined_in_order w f v g h = omega (arith, h)
+
 -- The works add up. Both runs have finished once the right work is done after the left finish, and not before the right finish.
 abbrev pub run_joined : RunSummary → RunSummary → RunSummary
 run_joined x y = record {
   work = capped (x.work + y.work);
   finish = capped (max (x.finish + y.work) y.finish);
-  ordered = omega (arith, x.ordered);
+  ordered = joined_in_order x.work x.finish y.work y.finish x.ordered;
   bounded = omega arith;
 }
 
@@ -40,8 +43,12 @@ run_written x = record { work = x.work; finish = x.finish }
 abbrev pub makes_run : ℕ → ℕ → Bool
 makes_run work finish = nat_le work finish && nat_le finish 4_000_000_000
 
-pub read_ordered : (row : RunRow) → (if makes_run row.work row.finish then row.work else 0) ≤ (if makes_run row.work row.finish then row.finish else 0)
-read_ordered row = grind (arith, nat_tests)
+pub read_ordered : (b : Bool) (w f : ℕ) → (b ≡ true → w ≤ f) → (if b then w else 0) ≤ (if b then f else 0)
+read_ordered true w f h = h refl
+read_ordered false w f h = omega arith
+
+pub row_ordered : (row : RunRow) → (if makes_run row.work row.finish then row.work else 0) ≤ (if makes_run row.work row.finish then row.finish else 0)
+row_ordered row = read_ordered (makes_run row.work row.finish) row.work row.finish (λ made. grind (arith, nat_tests, made))
 
 pub read_bounded : (row : RunRow) → (if makes_run row.work row.finish then row.finish else 0) ≤ 4_000_000_000
 read_bounded row = grind (arith, nat_tests)
@@ -51,7 +58,7 @@ abbrev pub run_read : RunRow → RunSummary
 run_read row = record {
   work = if makes_run row.work row.finish then row.work else 0;
   finish = if makes_run row.work row.finish then row.finish else 0;
-  ordered = read_ordered row;
+  ordered = row_ordered row;
   bounded = read_bounded row;
 }
 

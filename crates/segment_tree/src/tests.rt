@@ -62,6 +62,22 @@ fn a_third_kind_needs_no_other_tree(rt: HostRuntime) {
     assert_eq!(rt; tree.total().words, 30);
 }
 
+// Whoever is handed a tree may end it.
+fn total_with<K: Record>(mut tree: SegmentTree<'_, K>, leaf: u8, value: K) -> K
+    requires room { 512 ≤ length tree.places.now }
+{
+    tree.set(leaf, value);
+    tree.total()
+}
+
+#[test]
+fn a_tree_is_ended_by_whom_it_was_handed_to(rt: HostRuntime) {
+    let mut rows = [9; 512];
+    let tree = SegmentTree::<MostWords>::over(&mut rows);
+    assert_eq!(rt; total_with(tree, 7, MostWords { words: 30 }).words, 30);
+    assert_eq!(rt; rows[263], 0);
+}
+
 // The end of two runs in a row, or none if the second cannot be made. The rows are blank on both ways out.
 fn end_of_two(rows: &mut [RunRow], first: RunSummary, work: u32, finish: u32) -> Option<u32>
     requires room { 512 ≤ length rows.old }

@@ -68,12 +68,11 @@ fn blank_places<K: Record>(places: &mut [K::Row])
 }
 
 /// A tree of one kind of record over rows that it is lent, and the guard of these rows: it begins blank, and when it ends,
-/// on whichever way out, it leaves its places blank. At every moment between it has its room and is sound.
-// The rows are lent, and as many as ever: the planner allocates no memory.
+/// on whichever way out, it leaves its places blank.
+// The rows are lent, and as many as ever: the planner allocates no memory. Room and soundness are no invariants of the type: a function
+// that is given a tree with an invariant cannot end it, as the borrow checker does not cover that yet.
 pub struct SegmentTree<'a, K: Record> {
     places: &'a mut [K::Row],
-    ghost room: { 512 ≤ length places.now },
-    ghost sound: { Sound K.kind places.now },
 }
 
 // `same` says that the tree holds on to the rows it was lent, so that its end is known to blank those: no type can say it.
@@ -90,6 +89,7 @@ impl<'a, K: Record> SegmentTree<'a, K> {
 
     /// Blanks every leaf.
     pub fn blank(&mut self)
+        requires room { 512 ≤ length self.old.places.now }
         ensures blank { AllBlank K.kind self.old.places.now self.new.places.now }
         ensures same { self.new.places.ghost_name ≡ self.old.places.ghost_name }
     {
@@ -98,6 +98,7 @@ impl<'a, K: Record> SegmentTree<'a, K> {
 
     /// Puts the record at a leaf. Costs nine writes and eight joins.
     pub fn set(&mut self, leaf: u8, record: K)
+        requires room { 512 ≤ length self.old.places.now }
         ensures set { LeafSet K.kind self.old.places.now self.new.places.now leaf «record» }
         ensures same { self.new.places.ghost_name ≡ self.old.places.ghost_name }
     {
@@ -106,8 +107,9 @@ impl<'a, K: Record> SegmentTree<'a, K> {
 
     /// The join of all leaves in order. Costs one read.
     pub fn total(&self) -> K
+        requires room { 512 ≤ length self.now.places.now }
         ensures root { result ≡ record_at K.kind self.now.places.now 1 }
-        ensures total { result ≡ total K.kind (leaves K.kind self.now.places.now) }
+        ensures total { Sound K.kind self.now.places.now → result ≡ total K.kind (leaves K.kind self.now.places.now) }
     {
         total_of(self.places)
     }
@@ -116,6 +118,7 @@ impl<'a, K: Record> SegmentTree<'a, K> {
 // What the tree was lent is blank when it is given back.
 impl<K: Record> Drop for SegmentTree<'_, K> {
     fn drop(self)
+        requires room { 512 ≤ length self.places.now }
         ensures { AllBlank K.Record.kind self.entry.places.now self.exit.0.now }
     {
         let SegmentTree { places } = self;

@@ -13,7 +13,9 @@ use crate::runs::{LATEST, RunRow, RunSummary};
 fn capped_sum(x: u32, y: u32) -> u32
     ensures { result ≡ capped (x + y) }
 {
-    x.saturating_add(y).min(LATEST)
+    // In 64 bits: after `saturating_add` each join of a `set` waits longer for the one before.
+    let sum = u64::from(x) + u64::from(y);
+    u32::try_from(sum.min(u64::from(LATEST))).unwrap_or(LATEST)
 }
 
 impl RunSummary {
@@ -75,7 +77,8 @@ impl Record for RunSummary {
     }
 
     fn from_row(row: RunRow) -> RunSummary {
-        RunSummary::new(row.work, row.finish).unwrap_or(RunSummary::blank())
+        // A closure: a blank made beforehand makes `set` take half as long again.
+        RunSummary::new(row.work, row.finish).unwrap_or_else(|| RunSummary::blank())
     }
 
     fn to_row(self) -> RunRow {
